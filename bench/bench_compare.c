@@ -8,7 +8,6 @@
 
 #include "common.h"
 
-#if defined HAVE_XA_SHOW && defined HAVE_XA_COMPARE
 enum { ROUNDS = 61, MOST_ROWS = 65536 };
 
 typedef struct {
@@ -83,9 +82,3 @@ int main(int argc, char **argv)
     printf("show_loop %.0f\ncounted %.0f\n", median(times[2], ROUNDS), median(times[3], ROUNDS));
     return 0;
 }
-#else
-int main(void)
-{
-    return 0;
-}
-#endif

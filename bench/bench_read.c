@@ -29,26 +29,20 @@ static outcome call_walk_trusting(const uint8_t *data, size_t size, uint32_t *ro
     return of_walk(walk_trusting(data, size, rows, rows_len));
 }
 
-#if defined HAVE_XA_READ || defined HAVE_XA_JUDGE
 static outcome of_xa(xa_answer a)
 {
     return (outcome){a.code, a.offset, a.rows, a.rule, a.frame};
 }
-#endif
 
-#ifdef HAVE_XA_READ
 static outcome call_read(const uint8_t *data, size_t size, uint32_t *rows, size_t rows_len)
 {
     return of_xa(xa_read(data, size, rows, rows_len));
 }
-#endif
 
-#ifdef HAVE_XA_JUDGE
 static outcome call_judge(const uint8_t *data, size_t size, uint32_t *rows, size_t rows_len)
 {
     return of_xa(xa_judge(data, size, rows, rows_len));
 }
-#endif
 
 static const struct {
     const char *name;
@@ -56,12 +50,8 @@ static const struct {
 } calls[] = {
     {"walk", call_walk},
     {"walk_trusting", call_walk_trusting},
-#ifdef HAVE_XA_READ
     {"xa_read", call_read},
-#endif
-#ifdef HAVE_XA_JUDGE
     {"xa_judge", call_judge},
-#endif
 };
 
 enum { CALLS = sizeof calls / sizeof calls[0], MOST = 201, LEAST = 41 };

@@ -34,27 +34,21 @@ int main(int argc, char **argv)
     if (out == NULL || fwrite(image, 1, cells, out) != cells || fclose(out) != 0)
         stop("cannot be written", argv[3]);
 
-#ifdef HAVE_XA_SHOW
     uint32_t *lent = touched(rows_len * sizeof *lent, 0);
     uint8_t *shown = touched(cells, 0x5A);
     xa_answer answer = xa_show(data, size, frame, lent, rows_len, shown, cells);
     printf("xa_show_code %u\nxa_show_masked %u\nxa_show_same %d\n", answer.code, answer.masked,
            answer.code == 0 && memcmp(shown, image, cells) == 0);
-#endif
     for (int n = 0; n < REPETITIONS; n++) {
         double from = now();
         draw(&p, image, table, lines);
         times[0][n] = now() - from;
-#ifdef HAVE_XA_SHOW
         from = now();
         answer = xa_show(data, size, frame, lent, rows_len, shown, cells);
         times[1][n] = now() - from;
-#endif
-#ifdef HAVE_XA_JUDGE
         from = now();
         xa_judge(data, size, rows, rows_len);
         times[2][n] = now() - from;
-#endif
     }
     /* As for reading: a round's times are compared with each other. */
     for (int n = 0; n < REPETITIONS; n++)
@@ -63,11 +57,7 @@ int main(int argc, char **argv)
     printf("cells %zu\nstored %u\nmasks %u\nvertical %.2f\nhorizontal %.2f\n", cells, p.stored, p.masks,
            p.vertical / 4.0, p.horizontal / 4.0);
     printf("draw %.0f\n", median(times[0], REPETITIONS));
-#ifdef HAVE_XA_SHOW
     printf("xa_show %.0f\n", median(times[1], REPETITIONS));
-#endif
-#ifdef HAVE_XA_JUDGE
     printf("xa_judge %.0f\n", median(times[2], REPETITIONS));
-#endif
     return 0;
 }

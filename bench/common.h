@@ -13,21 +13,8 @@
 #include <time.h>
 #include <unistd.h>
 
-#include "walker.h"
-
-/* The library's own header, if it is there; HAVE_XA_... is defined for each call that the library has. */
-#if __has_include("../include/luuxidgaan.h")
 #include "../include/luuxidgaan.h"
-#else
-typedef struct {
-    uint32_t code, offset, rows, rule, frame, masked;
-    uint64_t searches;
-} xa_answer;
-xa_answer xa_read(const uint8_t *data, size_t size, uint32_t *rows, size_t rows_len);
-xa_answer xa_judge(const uint8_t *data, size_t size, uint32_t *rows, size_t rows_len);
-xa_answer xa_show(const uint8_t *data, size_t size, uint64_t frame, uint32_t *rows, size_t rows_len, uint8_t *image,
-                  size_t image_len);
-#endif
+#include "walker.h"
 
 static inline void stop(const char *what, const char *name)
 {

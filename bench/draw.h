@@ -16,7 +16,7 @@ typedef struct {
     unsigned masks;                  /* mask frames to be averaged, 1 to MASK_LIMIT */
     uint32_t mask[MASK_LIMIT];
     int32_t vertical, horizontal;    /* in quarters, -256 to 256 */
-    int64_t centre, window;          /* in thousandths */
+    int64_t centre, window;          /* in thousandths, enough for the windows of these objects */
     int inverse;                     /* MONOCHROME1 */
 } picture;
 

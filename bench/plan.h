@@ -67,7 +67,7 @@ static float fl(uint32_t row, uint32_t index)
     return number;
 }
 
-/* The first value of a DS element, of at most three decimals, in thousandths. */
+/* The first value of a DS element, in thousandths: the windows of these objects have at most three decimals. */
 static int64_t thousandths(uint32_t row)
 {
     char text[32] = {0};

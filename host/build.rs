@@ -1,5 +1,6 @@
 //! Links the proved library, which `rt staticlib cabi` writes into the repository's `target/staticlib`, and makes two tables: the attribute
-//! names, from the dictionary that Debian packages with pydicom, and the rules' sentences, from the source of the program `judge_one`.
+//! names, from the dictionary that Debian packages with pydicom, and the rules' sentences, from the source of the program `judge_one`. How
+//! many rules there are comes from the header.
 
 use std::fmt::Write;
 use std::path::Path;
@@ -33,7 +34,11 @@ fn tables(dictionary: &str) -> String {
             mask => repeated.push((mask, tag, name)),
         }
     }
-    assert!(single.len() > 4000, "{DICTIONARY} has another form than it had: {} names were found in it", single.len());
+    assert!(
+        single.len() > 4000,
+        "{DICTIONARY} no longer has the expected form: {} names were found in it",
+        single.len()
+    );
     single.sort_unstable();
     let mut source = format!("static SINGLE: [(u32, &str); {}] = [\n", single.len());
     for (tag, name) in &single {
@@ -51,11 +56,16 @@ fn tables(dictionary: &str) -> String {
 /// with the text on the next line where it is long.
 const SENTENCES: &str = "../crates/judge_one/src/sentence.rt";
 
-/// The rules are numbered from 1 to this.
-const RULES: usize = 39;
+/// The header, from the host's folder. It says how many rules there are: `#define XA_RULES 39`.
+const HEADER: &str = "../include/luuxidgaan.h";
 
-/// The sentences of all rules in their order; or what is not as it was.
-pub fn sentences(source: &str) -> Result<Vec<&str>, String> {
+/// How many rules there are.
+pub fn count(header: &str) -> Option<usize> {
+    header.lines().find_map(|line| line.strip_prefix("#define XA_RULES "))?.trim().parse().ok()
+}
+
+/// The sentences of all rules in their order; or what is not as expected.
+pub fn sentences(source: &str, rules: usize) -> Result<Vec<&str>, String> {
     let mut found = Vec::new();
     let mut arms = source.split(" => say(");
     let mut before = arms.next().unwrap_or_default();
@@ -79,15 +89,23 @@ pub fn sentences(source: &str) -> Result<Vec<&str>, String> {
         before = arm;
     }
     match found.len() {
-        RULES => Ok(found),
-        count => Err(format!("there are {count} rules in it, and not {RULES}")),
+        count if count == rules => Ok(found),
+        count => Err(format!("there are {count} rules in it, and not {rules}")),
     }
 }
 
-fn rules(source: &str) -> String {
-    let found =
-        sentences(source).unwrap_or_else(|trouble| panic!("{SENTENCES} has another form than it had: {trouble}"));
-    format!("static RULES: [&str; {RULES}] = {found:#?};\n")
+fn rules(source: &str, header: &str) -> String {
+    let count = count(header).unwrap_or_else(|| panic!("{HEADER} does not say how many rules there are"));
+    let found = sentences(source, count)
+        .unwrap_or_else(|trouble| panic!("{SENTENCES} no longer has the expected form: {trouble}"));
+    format!("pub const COUNT: usize = {count};\nstatic RULES: [&str; COUNT] = {found:#?};\n")
+}
+
+/// The text of a file of the repository; the tool is built again when it changes.
+fn source(host: &str, name: &str) -> String {
+    let place = Path::new(host).join(name);
+    println!("cargo:rerun-if-changed={}", place.display());
+    std::fs::read_to_string(&place).unwrap_or_else(|error| panic!("{name}: {error}"))
 }
 
 fn main() {
@@ -104,8 +122,6 @@ fn main() {
     std::fs::write(Path::new(&out).join("names.rs"), tables(&dictionary)).expect("cargo's own folder can be written");
     println!("cargo:rerun-if-changed={DICTIONARY}");
 
-    let place = Path::new(&host).join(SENTENCES);
-    let source = std::fs::read_to_string(&place).unwrap_or_else(|error| panic!("{SENTENCES}: {error}"));
-    std::fs::write(Path::new(&out).join("rules.rs"), rules(&source)).expect("cargo's own folder can be written");
-    println!("cargo:rerun-if-changed={}", place.display());
+    let rules = rules(&source(&host, SENTENCES), &source(&host, HEADER));
+    std::fs::write(Path::new(&out).join("rules.rs"), rules).expect("cargo's own folder can be written");
 }

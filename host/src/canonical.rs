@@ -15,33 +15,16 @@ use sha2::{Digest, Sha256};
 use crate::buffer::RowBuffer;
 use crate::codes::Coded;
 use crate::files::{self, Opened};
-use crate::finding::Inputs;
+use crate::finding::{Finding, Inputs};
 use crate::head::{Form, Judged};
 use crate::library::Answer;
 use crate::looking::{self, What};
 use crate::memory::Granted;
 use crate::other;
-use crate::output::{note, note_of, Object, Status};
-use crate::picture;
+use crate::output::{may_write, note, note_of, Lines, Object, Status};
+use crate::results::{self, Failure};
 use crate::settling::Settling;
-use crate::values::counted;
-
-/// Why there is no canonical form, in words.
-#[derive(Serialize, Deserialize)]
-pub enum Failure {
-    /// The library refused.
-    Refused(String),
-    /// The library refused it, and it is certainly no run.
-    Other(String),
-    /// Something else.
-    Trouble(String),
-}
-
-impl From<String> for Failure {
-    fn from(trouble: String) -> Failure {
-        Failure::Trouble(trouble)
-    }
-}
+use crate::values::{counted, listed};
 
 /// A data set in its canonical form.
 struct Canonical {
@@ -79,7 +62,9 @@ fn form_of(path: &Path, kind: Form, buffer: &mut RowBuffer) -> Result<Canonical,
     form.resize(data.len(), 0);
     let written = buffer.canonical(data, &mut form)?;
     if !written.is_done() {
-        return Err(Failure::Refused(Judged::of(kind, content, Answer::from(written), buffer.table(0)).line()));
+        let line = Judged::of(kind, content, Answer::from(written), buffer.table(0)).line();
+        opened.unchanged()?;
+        return Err(Failure::Refused(line));
     }
     buffer.let_go();
     form.truncate(written.length as usize);
@@ -108,31 +93,39 @@ pub fn summary(path: &Path, kind: Form) -> Result<Summary, Failure> {
     form_of(path, kind, &mut RowBuffer::default()).map(|found| Summary::of(&found))
 }
 
-/// Whether two files have the same canonical form, as one process tells it to another.
-pub fn are_equal(one: &Path, other: &Path, kind: Form) -> Result<bool, Failure> {
+/// Why two files cannot be compared: one of them has no canonical form, the file that is added or an earlier one.
+#[derive(Serialize, Deserialize)]
+pub enum Lost {
+    Added(Failure),
+    Earlier(Failure),
+}
+
+/// Whether a file has the same canonical form as an earlier one, as one process tells it to another.
+pub fn are_equal(added: &Path, earlier: &Path, kind: Form) -> Result<bool, Lost> {
     let mut buffer = RowBuffer::default();
-    let one = form_of(one, kind, &mut buffer)?;
-    Ok(form_of(other, kind, &mut buffer)?.form == one.form)
+    let form = form_of(added, kind, &mut buffer).map_err(Lost::Added)?.form;
+    Ok(form_of(earlier, kind, &mut buffer).map_err(Lost::Earlier)?.form == form)
 }
 
 /// Writes a file in canonical form to another: its head unchanged, then the canonical form of its data set.
 pub fn write(path: &Path, kind: Form, output: &Path, out: &mut dyn Write) -> io::Result<Status> {
+    if !may_write(output, path) {
+        return Ok(Status::Failed);
+    }
     let Canonical { head: mut content, form, same, _granted } = match form_of(path, kind, &mut RowBuffer::default()) {
         Ok(found) => found,
-        Err(Failure::Refused(text) | Failure::Other(text)) => {
-            return picture::explain(path, picture::Failure::Refused(text), out)
-        }
-        Err(Failure::Trouble(text)) => return picture::explain(path, picture::Failure::Trouble(text), out),
+        Err(failure) => return results::explain(path, failure, &mut Lines::Out(out)),
     };
     content.extend(form);
     let about = format!("{} bytes, {}", content.len(), if same { "unchanged" } else { "in canonical form" });
-    picture::write_file(Ok(content), path, output, &about, out)
+    results::write(Ok(content), output, &about, &mut Lines::Out(out))
 }
 
 /// A file, and whether it is in canonical form itself.
 struct Member {
     path: PathBuf,
     canonical: bool,
+    named: bool,
 }
 
 /// Files whose canonical forms are equal.
@@ -183,7 +176,7 @@ struct Search {
     groups: Vec<Group>,
     by_hash: HashMap<[u8; 32], Vec<usize>>,
     buffer: RowBuffer,
-    status: Option<Status>,
+    status: Status,
     refused: usize,
     unread: usize,
     others: usize,
@@ -198,7 +191,7 @@ impl Search {
             groups: Vec::new(),
             by_hash: HashMap::new(),
             buffer: RowBuffer::default(),
-            status: None,
+            status: Status::Fine,
             refused: 0,
             unread: 0,
             others: 0,
@@ -209,62 +202,90 @@ impl Search {
     /// Adds a file. One that was named itself is meant to be a run.
     fn add(&mut self, path: &Path, named: bool) {
         let found = match self.timeout {
-            None => self.add_here(path),
-            Some(limit) => self.add_within(limit, path),
+            None => self.add_here(path, named),
+            Some(limit) => self.add_within(limit, path, named),
         };
-        match found {
-            Ok(()) => {}
-            Err(Failure::Other(text)) => {
+        if let Err(failure) = found {
+            self.lose(path, named, &failure);
+        }
+    }
+
+    /// Counts a file that has no canonical form, and says why.
+    fn lose(&mut self, path: &Path, named: bool, failure: &Failure) {
+        match failure {
+            Failure::Other(text) => {
                 self.others += 1;
-                self.fail(path, if named { Status::Refused } else { Status::Fine }, &text);
+                self.fail(path, if named { Status::Refused } else { Status::Fine }, text);
             }
-            Err(Failure::Refused(text)) => {
+            Failure::Refused(text) => {
                 self.refused += 1;
-                self.fail(path, Status::Refused, &text);
+                self.fail(path, Status::Refused, text);
             }
-            Err(Failure::Trouble(text)) => {
+            Failure::Trouble(text) => {
                 self.unread += 1;
-                self.fail(path, Status::Failed, &text);
+                self.fail(path, Status::Failed, text);
             }
         }
     }
 
     fn fail(&mut self, path: &Path, status: Status, text: &str) {
         note_of(path, text);
-        self.status = self.status.max(Some(status));
+        self.status = self.status.max(status);
     }
 
-    fn add_here(&mut self, path: &Path) -> Result<(), Failure> {
+    fn add_here(&mut self, path: &Path, named: bool) -> Result<(), Failure> {
         let found = form_of(path, self.kind, &mut self.buffer)?;
         let kind = self.kind;
-        self.place(path, &Summary::of(&found), |first, buffer| Ok(form_of(first, kind, buffer)?.form == found.form))
+        let is_equal = |earlier: &Path, buffer: &mut RowBuffer| {
+            form_of(earlier, kind, buffer).map(|earlier| earlier.form == found.form).map_err(Lost::Earlier)
+        };
+        self.place(path, named, &Summary::of(&found), is_equal)
     }
 
     /// The same, in processes of their own.
-    fn add_within(&mut self, limit: Duration, path: &Path) -> Result<(), Failure> {
+    fn add_within(&mut self, limit: Duration, path: &Path, named: bool) -> Result<(), Failure> {
         let kind = self.kind;
         let found: Result<Summary, Failure> = looking::within_alone(limit, What::Form, &[path], kind)?;
-        self.place(path, &found?, |first, _| looking::within_alone(limit, What::Equal, &[path, first], kind)?)
+        self.place(path, named, &found?, |earlier, _| {
+            looking::within_alone(limit, What::Equal, &[path, earlier], kind)
+                .unwrap_or_else(|trouble| Err(Lost::Added(Failure::Trouble(trouble))))
+        })
     }
 
-    /// Puts a file into the group whose first file has the same canonical form, or into a new one.
+    /// Puts a file into the group whose files have the same canonical form, or into a new one. A file of a group that has no canonical form
+    /// any more leaves the group.
     fn place(
         &mut self,
         path: &Path,
+        named: bool,
         found: &Summary,
-        is_equal: impl Fn(&Path, &mut RowBuffer) -> Result<bool, Failure>,
+        is_equal: impl Fn(&Path, &mut RowBuffer) -> Result<bool, Lost>,
     ) -> Result<(), Failure> {
-        let member = Member { path: path.to_path_buf(), canonical: found.same };
-        for &number in self.by_hash.get(&found.hash).map_or(&[][..], Vec::as_slice) {
-            let first = self.groups[number].members[0].path.clone();
-            if is_equal(&first, &mut self.buffer)? {
-                self.groups[number].members.push(member);
-                return Ok(());
+        let member = Member { path: path.to_path_buf(), canonical: found.same, named };
+        for number in self.by_hash.get(&found.hash).cloned().unwrap_or_default() {
+            while let Some(first) = self.groups[number].members.first().map(|first| first.path.clone()) {
+                match is_equal(&first, &mut self.buffer) {
+                    Ok(true) => {
+                        self.groups[number].members.push(member);
+                        return Ok(());
+                    }
+                    Ok(false) => break,
+                    Err(Lost::Added(failure)) => return Err(failure),
+                    Err(Lost::Earlier(failure)) => {
+                        let lost = self.groups[number].members.remove(0);
+                        self.lose(&lost.path, lost.named, &failure);
+                    }
+                }
             }
         }
         self.by_hash.entry(found.hash).or_default().push(self.groups.len());
         self.groups.push(Group { hash: found.hash, length: found.length, members: vec![member] });
         Ok(())
+    }
+
+    /// How many files were compared, or should have been.
+    fn compared(&self) -> usize {
+        self.groups.iter().map(|group| group.members.len()).sum::<usize>() + self.refused + self.unread
     }
 }
 
@@ -274,28 +295,32 @@ pub struct Wanted {
     pub json: bool,
 }
 
+/// The files, each once: a file is no duplicate of itself, whatever name it was found under.
+fn find(inputs: &Inputs) -> Finding {
+    let mut finding = inputs.find(None);
+    let mut seen = HashSet::new();
+    for one in std::mem::take(&mut finding.found) {
+        match fs::canonicalize(&one.path).map_or(true, |path| seen.insert(path)) {
+            true => finding.found.push(one),
+            false => finding.skip(&one.path, "the same file was found already"),
+        }
+    }
+    finding
+}
+
 /// Finds files whose data sets have the same canonical form.
 pub fn duplicates(wanted: &Wanted, out: &mut dyn Write) -> io::Result<Status> {
     let Wanted { inputs, json } = wanted;
-    let finding = inputs.find(None);
+    let finding = find(inputs);
     if finding.found.is_empty() {
         note("nothing was compared: no files were found");
         return Ok(Status::Failed);
     }
     let mut search = Search::of(inputs.form, inputs.timeout);
-    let mut seen = HashSet::new();
     let settling = Settling::of(&finding.found, inputs.settle);
     for (place, one) in finding.found.iter().enumerate() {
-        // A file is no duplicate of itself, whatever name it was found under.
-        if fs::canonicalize(&one.path).map_or(false, |path| !seen.insert(path)) {
-            note_of(&one.path, "skipped: the same file was found already");
-            continue;
-        }
         match (&one.unreadable, settling.arriving(place)) {
-            (Some(trouble), _) => {
-                search.unread += 1;
-                search.fail(&one.path, Status::Failed, trouble);
-            }
+            (Some(trouble), _) => search.lose(&one.path, one.named, &Failure::Trouble(trouble.clone())),
             (None, Some(why)) => {
                 search.arriving += 1;
                 search.fail(&one.path, Status::Fine, &format!("arriving: {why}"));
@@ -310,22 +335,23 @@ pub fn duplicates(wanted: &Wanted, out: &mut dyn Write) -> io::Result<Status> {
             false => group.print(out)?,
         }
     }
-    let mut summary = format!(
-        "{}: {} equal in {}, {} refused, {} could not be read",
+    let summary = format!(
+        "{}: {} equal in {}, {} refused, {} could not be read{}{}",
         counted(finding.found.len(), "file"),
         equal.iter().map(|group| group.members.len()).sum::<usize>(),
         counted(equal.len(), "group"),
         search.refused,
-        search.unread
+        search.unread,
+        listed(&[(search.others, "not ours"), (search.arriving, "arriving")]),
+        listed(&finding.passed_over())
     );
-    for (count, what) in [(search.others, "not ours"), (search.arriving, "arriving")] {
-        if count > 0 {
-            summary.push_str(&format!(", {count} {what}"));
-        }
-    }
     match *json {
         true => note(&summary),
         false => writeln!(out, "{summary}")?,
     }
-    Ok(search.status.unwrap_or(Status::Fine))
+    if search.compared() == 0 {
+        note("nothing was compared: no runs were found, or all are still arriving");
+        return Ok(Status::Failed);
+    }
+    Ok(search.status)
 }

@@ -9,9 +9,11 @@ use std::path::{Path, PathBuf};
 
 use crate::files::{self, Opened};
 use crate::head::Form;
+use crate::image::{format_of, Format, Image};
 use crate::library::Compared;
-use crate::output::{line, note_of, Status};
-use crate::picture::{self, Failure, Format, Image, Run};
+use crate::output::{line, may_write, note_of, Lines, Status};
+use crate::results::{self, explain, Failure};
+use crate::run::Run;
 use crate::values::counted;
 
 /// A cell in the picture of differences: white where the pictures differ, else our level, dimmed.
@@ -60,7 +62,7 @@ fn read_png(content: &[u8]) -> Option<Cells> {
 fn read_cells(path: &Path) -> Result<Cells, String> {
     let opened = Opened::open(path)?;
     let content = opened.bytes();
-    match picture::format_of(path) {
+    match format_of(path) {
         Some(Format::Png) => read_png(content).ok_or_else(|| String::from("not an 8-bit grey PNG")),
         Some(Format::Pgm) => read_pgm(content).ok_or_else(|| String::from("not a PGM (P5) with levels 0 to 255")),
         None => Ok(Cells { levels: content.to_vec(), size: None }),
@@ -97,14 +99,7 @@ fn differences(ours: &Image<u8>, theirs: &[u8], tolerance: u64) -> Result<Image<
 }
 
 /// Compares one picture, and says whether it passed.
-fn one(
-    run: &mut Run,
-    from: &Path,
-    frame: u64,
-    path: &Path,
-    wanted: &Wanted,
-    out: &mut dyn Write,
-) -> io::Result<Status> {
+fn one(run: &mut Run, frame: u64, path: &Path, wanted: &Wanted, out: &mut dyn Write) -> io::Result<Status> {
     let cells = match read_cells(path) {
         Ok(cells) => cells,
         Err(trouble) => {
@@ -115,13 +110,13 @@ fn one(
     let (width, height) = run.size();
     if let Some((theirs_wide, theirs_high)) = cells.size.filter(|&size| size != (width, height)) {
         let text = format!("it is {theirs_wide} x {theirs_high}, but a frame of the run is {width} x {height}");
-        return picture::explain(path, Failure::Refused(text), out);
+        return explain(path, Failure::Refused(text), &mut Lines::Out(out));
     }
     let compared =
         run.compare(frame, &cells.levels, wanted.tolerance).and_then(|found| Ok((found, run.draw(frame)?.0)));
     let (found, ours) = match compared {
         Ok(compared) => compared,
-        Err(failure) => return picture::explain(path, failure, out),
+        Err(failure) => return explain(path, failure, &mut Lines::Out(out)),
     };
     line(out, path, &about(&found, frame, wanted.tolerance, &ours, &cells.levels))?;
     let passed = if found.same == 1 { Status::Fine } else { Status::Refused };
@@ -129,7 +124,10 @@ fn one(
         return Ok(passed);
     };
     let drawn = match differences(&ours, &cells.levels, wanted.tolerance) {
-        Ok(image) => picture::write(&image, from, to, &format!("frame {frame}, white where it differs"), out)?,
+        Ok(image) => {
+            let about = format!("frame {frame}, white where it differs");
+            results::write_image(&image, to, &about, &mut Lines::Out(out))?
+        }
         Err(trouble) => {
             note_of(to, &trouble);
             Status::Failed
@@ -172,9 +170,12 @@ pub struct Wanted<'a> {
 
 /// Compares a picture with a frame of a run.
 pub fn picture(path: &Path, frame: u64, other: &Path, wanted: &Wanted, out: &mut dyn Write) -> io::Result<Status> {
+    if wanted.output.map_or(false, |to| !may_write(to, path) || !may_write(to, other)) {
+        return Ok(Status::Failed);
+    }
     match Run::open(path, wanted.form) {
-        Ok(mut run) => one(&mut run, path, frame, other, wanted, out),
-        Err(failure) => picture::explain(path, failure, out),
+        Ok(mut run) => one(&mut run, frame, other, wanted, out),
+        Err(failure) => explain(path, failure, &mut Lines::Out(out)),
     }
 }
 
@@ -188,17 +189,17 @@ pub fn folder(path: &Path, folder: &Path, wanted: &Wanted, out: &mut dyn Write) 
         }
     };
     if pictures.is_empty() {
-        note_of(folder, "no picture in it has a frame number in its name");
+        note_of(folder, "no file in it has a frame number in its name");
         return Ok(Status::Failed);
     }
     let mut run = match Run::open(path, wanted.form) {
         Ok(run) => run,
-        Err(failure) => return picture::explain(path, failure, out),
+        Err(failure) => return explain(path, failure, &mut Lines::Out(out)),
     };
     let mut worst = Status::Fine;
     let mut passed = 0;
     for (frame, other) in &pictures {
-        let status = one(&mut run, path, *frame, other, wanted, out)?;
+        let status = one(&mut run, *frame, other, wanted, out)?;
         passed += usize::from(status == Status::Fine);
         worst = worst.max(status);
     }
@@ -209,4 +210,57 @@ pub fn folder(path: &Path, folder: &Path, wanted: &Wanted, out: &mut dyn Write) 
         counted(run.frames() as usize, "frame")
     )?;
     Ok(worst)
+}
+
+#[cfg(test)]
+mod tests {
+    use super::*;
+
+    #[test]
+    fn pgm_files() {
+        let read = |content: &[u8]| read_pgm(content).map(|cells| (cells.levels, cells.size.unwrap_or_default()));
+        assert_eq!(read(b"P5\n2 1\n255\n\x07\x08"), Some((vec![7, 8], (2, 1))));
+        assert_eq!(read(b"P5 \t1\r\n2 255 \n\n"), Some((vec![b'\n', b'\n'], (1, 2))));
+        assert_eq!(read(b"P5 0 7 255 "), Some((Vec::new(), (0, 7))));
+        let wrong: [&[u8]; 11] = [
+            b"",
+            b"P5",
+            b"P6 2 1 255 ab",
+            b"P52 1 255 ab",
+            b"P5 2 1 255 a",
+            b"P5 2 1 255 abc",
+            b"P5 2 1 65535 abcd",
+            b"P5 2 1 255",
+            b"P5 2 1 255xab",
+            b"P5 -2 1 255 ab",
+            b"P5 18446744073709551615 18446744073709551615 255 ab",
+        ];
+        assert!(wrong.iter().all(|content| read_pgm(content).is_none()));
+    }
+
+    #[test]
+    fn png_files() {
+        let image = Image::new(3, 2, 9u8).unwrap();
+        let read = read_png(&image.encoded(Format::Png).unwrap()).unwrap();
+        assert_eq!((read.levels, read.size), (vec![9; 6], Some((3, 2))));
+        let deep = Image::new(3, 2, 9u16).unwrap().encoded(Format::Png).unwrap();
+        assert!(read_png(&deep).is_none() && read_png(&deep[..40]).is_none() && read_png(b"").is_none());
+    }
+
+    #[test]
+    fn frames_by_name() {
+        let number = |name: &str| number_in(Path::new(name));
+        assert_eq!(["frame-007.png", "7", "a/2024/run3.frame-12.raw", "x1y"].map(number), [7, 7, 12, 1].map(Some));
+        // The ending does not count, nor does a number that no frame has.
+        assert_eq!(["frame.p5", "readme", "", "99999999999999999999"].map(number), [None; 4]);
+    }
+
+    #[test]
+    fn white_where_they_differ() {
+        let mut ours = Image::new(2, 2, 90u8).unwrap();
+        ours.put(1, 1, 3);
+        let drawn = |tolerance| differences(&ours, &[90, 93, 87, 0], tolerance).unwrap().cells().to_vec();
+        assert_eq!(drawn(3), [30, 30, 30, 1]);
+        assert_eq!(drawn(2), [30, OFF, OFF, OFF]);
+    }
 }

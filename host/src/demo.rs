@@ -3,8 +3,9 @@
 //! A run shows bones and a tree of vessels that fills with contrast while the patient moves a little. Its mask is the average of the
 //! first two frames, and each frame has its own window and its own shift of the mask, in quarters of a pixel.
 
+use std::fs;
 use std::io::{self, Write};
-use std::path::Path;
+use std::path::{Path, PathBuf};
 
 use crate::files;
 use crate::finding::Inputs;
@@ -12,7 +13,7 @@ use crate::frames;
 use crate::head::Form;
 use crate::judging;
 use crate::names::tags::*;
-use crate::output::{line, note_unwritten, Status};
+use crate::output::{line, note_of, note_unwritten, Status};
 use crate::picture;
 
 const FRAMES: usize = 24;
@@ -307,6 +308,27 @@ fn typed(out: &mut dyn Write, words: &[&str], path: &Path) -> io::Result<()> {
     writeln!(out, "\n$ luux {} {}", words.join(" "), files::printed(path))
 }
 
+/// The frames that are drawn, and the name of the contact sheet.
+const DRAWN: [u64; 4] = [1, 7, 11, 19];
+const CONTACT: &str = "contact.png";
+
+fn drawn(folder: &Path, frame: u64) -> PathBuf {
+    folder.join(format!("frame-{frame}.png"))
+}
+
+/// A file of the folder that the demonstration would replace and did not write: a run that is not the sample of its name, or a picture where
+/// there are no samples.
+fn in_the_way(folder: &Path, samples: &[(PathBuf, &[u8])]) -> Option<PathBuf> {
+    let exists = |path: &Path| fs::symlink_metadata(path).is_ok();
+    let sample = |(path, content): &(PathBuf, &[u8])| fs::read(path).is_ok_and(|there| there == *content);
+    if let Some((path, _)) = samples.iter().find(|one| exists(&one.0) && !sample(one)) {
+        return Some(path.clone());
+    }
+    let pictures = DRAWN.map(|frame| drawn(folder, frame)).into_iter().chain([folder.join(CONTACT)]);
+    let mut pictures = pictures.filter(|_| !samples.iter().any(sample));
+    pictures.find(|path| exists(path))
+}
+
 pub fn run(folder: &Path, jobs: usize, out: &mut dyn Write) -> io::Result<Status> {
     let pixels = pixels();
     let good = file(&data_set(&pixels, None, None));
@@ -317,14 +339,18 @@ pub fn run(folder: &Path, jobs: usize, out: &mut dyn Write) -> io::Result<Status
         ("window-lost.xa", &file(&data_set(&pixels, None, Some(WINDOWLESS))), "no Window Width in frame 17"),
     ];
     let runs = folder.join("runs");
+    let contents = samples.map(|(name, content, _)| (runs.join(name), content));
+    if let Some(path) = in_the_way(folder, &contents) {
+        note_of(&path, "cannot be written: it exists, and is not of a demonstration; name another folder");
+        return Ok(Status::Failed);
+    }
     writeln!(out, "Sample runs:")?;
-    for (name, content, about) in samples {
-        let path = runs.join(name);
-        if let Err(error) = files::write_whole(&path, content, true) {
-            note_unwritten(&path, &error);
+    for ((path, content), (_, _, about)) in contents.iter().zip(samples) {
+        if let Err(error) = files::write_whole(path, content, true) {
+            note_unwritten(path, &error);
             return Ok(Status::Failed);
         }
-        line(out, &path, about)?;
+        line(out, path, about)?;
     }
 
     typed(out, &["judge"], &runs)?;
@@ -336,13 +362,13 @@ pub fn run(folder: &Path, jobs: usize, out: &mut dyn Write) -> io::Result<Status
     };
 
     let path = runs.join("good.xa");
-    for frame in [1, 7, 11, 19] {
-        let to = folder.join(format!("frame-{frame}.png"));
+    for frame in DRAWN {
+        let to = drawn(folder, frame);
         typed(out, &["show", &path.to_string_lossy(), &frame.to_string(), "-o"], &to)?;
         let wanted = frames::Wanted { form: Form::File, both: false, format: None, output: Some(&to) };
         status = status.max(frames::show(&path, frames::Frames::One(frame), &wanted, out)?);
     }
-    let to = folder.join("contact.png");
+    let to = folder.join(CONTACT);
     typed(out, &["contact", &path.to_string_lossy(), "-o"], &to)?;
     status = status.max(picture::contact(&path, Form::File, Some(&to), out)?);
     Ok(status)

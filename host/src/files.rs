@@ -91,7 +91,7 @@ impl State {
         since(self.changed)
     }
 
-    /// How long ago it was written to. A time in the future is not believed; then it counts when it was changed.
+    /// How long ago it was written to. If that time is in the future, the time of the last change of its metadata counts.
     pub fn age(&self) -> Duration {
         since(self.written).or_else(|| since(self.changed)).unwrap_or_default()
     }
@@ -319,8 +319,19 @@ pub fn is_draft(name: &OsStr) -> bool {
     name.starts_with(DRAFT.0.as_bytes()) && name.ends_with(DRAFT.1.as_bytes())
 }
 
-/// Writes a file whole or not at all: to a draft in the same folder, which is synced and renamed. Missing folders are made if `folders`.
+/// Whether a path leads to a regular file that starts with these bytes.
+pub fn starts_with(path: &Path, start: &[u8]) -> bool {
+    let regular = fs::metadata(path).is_ok_and(|about| about.is_file());
+    let mut bytes = vec![0; start.len()];
+    regular && File::open(path).is_ok_and(|file| file.read_exact_at(&mut bytes, 0).is_ok()) && bytes == start
+}
+
+/// Writes a file whole or not at all: to a draft in the same folder, which is synced and renamed. Missing folders are made if `folders`. A
+/// device, a pipe or a folder is never replaced.
 pub fn write_whole(path: &Path, content: &[u8], folders: bool) -> io::Result<()> {
+    if fs::metadata(path).is_ok_and(|about| !about.is_file()) {
+        return Err(io::Error::new(io::ErrorKind::AlreadyExists, "it exists, and is not a regular file"));
+    }
     let folder = folder_of(path);
     if folders {
         fs::create_dir_all(folder)?;
@@ -357,8 +368,17 @@ pub fn is_plain(letter: char) -> bool {
     }
 }
 
-/// A path on one line of print. Other characters are escaped: `\\` is a backslash, `\x0A` a byte, `\u{202E}` a character. So a line stays a
-/// line, and no two names look the same.
+/// A character in print: itself, or `\\` for a backslash, `\x0A` for a control character of ASCII, `\u{202E}` for any other that is not plain.
+pub fn escaped(letter: char) -> String {
+    match letter {
+        '\\' => String::from("\\\\"),
+        _ if letter.is_ascii_control() => format!("\\x{:02X}", letter as u32),
+        _ if is_plain(letter) => String::from(letter),
+        _ => format!("\\u{{{:X}}}", letter as u32),
+    }
+}
+
+/// A path on one line of print. So a line stays a line, and no two names look the same.
 pub fn printed(path: &Path) -> String {
     let mut line = String::new();
     let mut rest = path.as_os_str().as_bytes();
@@ -368,14 +388,7 @@ pub fn printed(path: &Path) -> String {
             Err(error) => error.valid_up_to(),
         };
         let (text, others) = rest.split_at(whole);
-        for letter in String::from_utf8_lossy(text).chars() {
-            match letter {
-                '\\' => line.push_str("\\\\"),
-                _ if letter.is_ascii_control() => line.push_str(&format!("\\x{:02X}", letter as u32)),
-                _ if is_plain(letter) => line.push(letter),
-                _ => line.push_str(&format!("\\u{{{:X}}}", letter as u32)),
-            }
-        }
+        line.extend(String::from_utf8_lossy(text).chars().map(escaped));
         rest = match others.split_first() {
             Some((byte, others)) => {
                 line.push_str(&format!("\\x{byte:02X}"));
@@ -387,9 +400,9 @@ pub fn printed(path: &Path) -> String {
     line
 }
 
-/// Whether two paths lead to one file that is there.
+/// Whether two paths lead to one file that is there, also through links of both kinds.
 pub fn is_same(one: &Path, other: &Path) -> bool {
-    matches!((fs::canonicalize(one), fs::canonicalize(other)), (Ok(one), Ok(other)) if one == other)
+    matches!((State::at(one), State::at(other)), (Ok(one), Ok(other)) if one.file == other.file)
 }
 
 /// The last part of a path with an ending added, for a file in the current folder.
@@ -426,10 +439,52 @@ mod tests {
     }
 
     #[test]
+    fn starts_of_files() {
+        let path = tempfile::NamedTempFile::new().unwrap().into_temp_path();
+        assert!(starts_with(&path, b"") && !starts_with(&path, b"a"));
+        fs::write(&path, b"abc").unwrap();
+        assert!(
+            starts_with(&path, b"ab")
+                && starts_with(&path, b"abc")
+                && !starts_with(&path, b"abcd")
+                && !starts_with(&path, b"b")
+        );
+        assert!(!starts_with(Path::new("/dev/null"), b"") && !starts_with(Path::new("/"), b""));
+    }
+
+    #[test]
+    fn only_regular_files_are_replaced() {
+        let folder = tempfile::tempdir().unwrap();
+        let path = folder.path().join("a/b");
+        assert!(write_whole(&path, b"x", false).is_err() && write_whole(&path, b"x", true).is_ok());
+        assert!(write_whole(&path, b"y", false).is_ok() && fs::read(&path).unwrap() == b"y");
+        assert!(
+            write_whole(&folder.path().join("a"), b"x", false).is_err()
+                && write_whole(Path::new("/dev/null"), b"x", false).is_err()
+        );
+        assert!(fs::metadata("/dev/null").is_ok_and(|about| !about.is_file()));
+    }
+
+    #[test]
     fn drafts_have_their_own_names() {
         assert!(is_draft(OsStr::new(".luux-a1.tmp")));
         assert!(!is_draft(OsStr::new("luux-a1.tmp")) && !is_draft(OsStr::new(".luux-a1")));
         assert_eq!(beside(Path::new("a/b/run.xa"), ".movie.png"), Path::new("run.xa.movie.png"));
+    }
+
+    #[test]
+    fn one_file_under_many_names() {
+        let folder = tempfile::tempdir().unwrap();
+        let path = |name: &str| folder.path().join(name);
+        fs::write(path("a"), "").unwrap();
+        fs::write(path("b"), "").unwrap();
+        fs::hard_link(path("a"), path("hard")).unwrap();
+        std::os::unix::fs::symlink("a", path("soft")).unwrap();
+        for name in ["a", "./a", "hard", "soft"] {
+            assert!(is_same(&path("a"), &path(name)) && is_same(&path(name), &path("a")), "{name}");
+        }
+        assert!(!is_same(&path("a"), &path("b")));
+        assert!(!is_same(&path("a"), &path("missing")) && !is_same(&path("missing"), &path("missing")));
     }
 
     #[test]
@@ -438,14 +493,12 @@ mod tests {
         assert!(since((-5, 0)).is_some() && since((i64::MAX, 0)).is_none() && since((1, -1)).is_none());
     }
 
-    /// If the file system has leases: we get one if nobody writes, none if somebody does, and lose it to one who wants to.
+    /// On a local file system we get a lease if nobody writes, none if somebody does, and lose it to one who wants to.
     #[test]
     fn leases() {
         let path = tempfile::NamedTempFile::new().unwrap().into_temp_path();
         let file = File::open(&path).unwrap();
-        if matches!(writers(&file), Writers::Unknown) {
-            return;
-        }
+        assert!(is_local(&file), "TMPDIR must be on a local file system");
         let writer = fs::OpenOptions::new().write(true).open(&path).unwrap();
         assert!(matches!(writers(&file), Writers::Some) && is_written_to(&path));
         drop(writer);

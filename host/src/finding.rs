@@ -9,10 +9,9 @@ use std::time::Duration;
 use globset::{Glob, GlobBuilder, GlobSet, GlobSetBuilder};
 use walkdir::{DirEntry, WalkDir};
 
-use crate::codes::Coded;
-use crate::files::{self, trouble, Opened};
+use crate::files::{self, trouble};
 use crate::head::Form;
-use crate::library;
+use crate::keeping;
 use crate::output::note_of;
 
 /// A pattern such as `*.dcm` or `runs/**/late-?.xa`, as given on the command line.
@@ -77,13 +76,9 @@ impl Inputs {
         Inputs { named, form, choice: Choice::default(), settle: None, timeout: None }
     }
 
-    /// The files, but not those in the folders `leave`, which luux fills. What is skipped is listed on standard error.
+    /// The files, but not those in the folders `leave`, which luux fills.
     pub fn find<'a>(&self, leave: impl IntoIterator<Item = &'a Path>) -> Finding {
-        let finding = Finding::of(&self.named, leave, &self.choice);
-        for (path, reason) in &finding.skipped {
-            note_of(path, &format!("skipped: {reason}"));
-        }
-        finding
+        Finding::of(&self.named, leave, &self.choice)
     }
 }
 
@@ -99,10 +94,10 @@ pub struct Found {
 #[derive(Default)]
 pub struct Finding {
     pub found: Vec<Found>,
-    /// What a folder holds and is not looked at, with the reason.
-    pub skipped: Vec<(PathBuf, &'static str)>,
+    /// How many were not looked at; each was listed on standard error.
+    skipped: usize,
     /// How many were not chosen.
-    pub left_out: usize,
+    left_out: usize,
 }
 
 impl Finding {
@@ -115,13 +110,24 @@ impl Finding {
                 let before = finding.found.len() + finding.left_out;
                 finding.folder(path, &leave, choice);
                 if finding.found.len() + finding.left_out == before {
-                    finding.skipped.push((path.clone(), "it contains no files"));
+                    finding.skip(path, "it contains no files");
                 }
             } else {
                 finding.file(path, true, choice);
             }
         }
         finding
+    }
+
+    /// Counts a file that is not looked at, and says why.
+    pub fn skip(&mut self, path: &Path, reason: &str) {
+        note_of(path, &format!("skipped: {reason}"));
+        self.skipped += 1;
+    }
+
+    /// How many files were passed over, for a summary.
+    pub fn passed_over(&self) -> [(usize, &'static str); 2] {
+        [(self.skipped, "skipped"), (self.left_out, "left out by --include or --exclude")]
     }
 
     fn file(&mut self, path: &Path, named: bool, choice: &Choice) {
@@ -157,7 +163,7 @@ impl Finding {
 
     fn enters(&mut self, path: &Path, leave: &[PathBuf], choice: &Choice) -> bool {
         if !leave.is_empty() && fs::canonicalize(path).map_or(false, |path| leave.contains(&path)) {
-            self.skipped.push((path.to_path_buf(), "luux writes to this folder"));
+            self.skip(path, "luux writes to this folder");
             return false;
         }
         let excluded = choice.exclude.match_path(path);
@@ -176,17 +182,66 @@ impl Finding {
             // A file whose metadata cannot be read gets its line when it is opened.
             _ => return self.file(path, false, choice),
         };
-        self.skipped.push((path.to_path_buf(), reason));
+        self.skip(path, reason);
     }
 }
 
-/// Larger files are not tested for being a slip.
-const SLIP_MOST: u64 = 64;
-
 /// Whether a file has the name of a slip, even of one moved aside, and is one.
 fn is_slip(path: &Path) -> bool {
-    let name = path.file_name().unwrap_or(OsStr::new("")).as_bytes();
-    (name.ends_with(b".slip") || name.windows(9).any(|part| part == b".slip.old"))
-        && fs::metadata(path).map_or(false, |about| about.len() <= SLIP_MOST)
-        && Opened::open(path).map_or(false, |opened| library::read_slip(opened.bytes()).is_done())
+    has_name_of_slip(path.file_name().unwrap_or_default()) && keeping::is_slip(path)
+}
+
+fn has_name_of_slip(name: &OsStr) -> bool {
+    let name = name.as_bytes();
+    name.ends_with(b".slip") || name.windows(9).any(|part| part == b".slip.old")
+}
+
+#[cfg(test)]
+mod tests {
+    use super::*;
+
+    fn globs(texts: &[&str]) -> Vec<Glob> {
+        texts.iter().map(|text| pattern(text).unwrap()).collect()
+    }
+
+    fn taken<'a>(include: &[&str], exclude: &[&str], paths: &[&'a str]) -> Vec<&'a str> {
+        let choice = Choice::of(&globs(include), &globs(exclude)).unwrap();
+        paths.iter().copied().filter(|path| choice.takes(Path::new(path))).collect()
+    }
+
+    #[test]
+    fn globs_of_names_and_paths() {
+        let paths = ["a.dcm", "./a.dcm", "runs/a.dcm", "runs/sub/a.dcm", "b.txt", "/x/a.dcm"];
+        assert_eq!(taken(&[], &[], &paths), paths);
+        assert_eq!(taken(&["*.dcm"], &[], &paths), ["a.dcm", "./a.dcm", "runs/a.dcm", "runs/sub/a.dcm", "/x/a.dcm"]);
+        assert_eq!(taken(&["runs/*.dcm"], &[], &paths), ["runs/a.dcm"]);
+        assert_eq!(taken(&["runs/**"], &["**/sub/*"], &paths), ["runs/a.dcm"]);
+        assert_eq!(taken(&["?.{txt,dcm}"], &["a.*"], &paths), ["b.txt"]);
+        assert_eq!(taken(&["A.DCM"], &[], &paths), [""; 0]);
+        assert!(pattern("[").is_err());
+    }
+
+    #[test]
+    fn names_of_slips() {
+        let is = |name: &str| has_name_of_slip(OsStr::new(name));
+        assert!(is("run.xa.slip") && is("run.xa.slip.old") && is("run.xa.slip.old-12"));
+        assert!(!is("run.xa") && !is("slip") && !is("run.slip.xa") && !is(""));
+    }
+
+    #[test]
+    fn what_is_passed_over_is_counted() {
+        let folder = tempfile::tempdir().unwrap();
+        for name in ["a", "b.txt", ".luux-x.tmp", "skip/c", "out/d"] {
+            let path = folder.path().join(name);
+            fs::create_dir_all(path.parent().unwrap()).unwrap();
+            fs::write(path, b"").unwrap();
+        }
+        std::os::unix::fs::symlink("skip", folder.path().join("link")).unwrap();
+        let out = folder.path().join("out");
+        let choice = Choice::of(&[], &globs(&["*.txt", "skip"])).unwrap();
+        let finding = Finding::of(&[folder.path().to_path_buf(), folder.path().join("gone")], [out.as_path()], &choice);
+        let names: Vec<_> = finding.found.iter().map(|one| (one.path.file_name().unwrap(), one.named)).collect();
+        assert_eq!(names, [(OsStr::new("a"), false), (OsStr::new("gone"), true)]);
+        assert_eq!(finding.passed_over().map(|(count, _)| count), [3, 2]);
+    }
 }

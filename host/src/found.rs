@@ -331,3 +331,38 @@ pub fn by_head(file: &[u8], answer: &Answer, head: &Source, data: &Source) -> Ve
         _ => Vec::new(),
     }
 }
+
+#[cfg(test)]
+mod tests {
+    use super::*;
+
+    #[test]
+    fn headers() {
+        let text = |bytes: &[u8]| header(bytes).text;
+        assert_eq!(text(b""), "no bytes left");
+        assert_eq!(text(b"\x28\0\x10\0US\x02"), "7 bytes left: 28 00 10 00 55 53 02");
+        assert_eq!(text(b"\x28\0\x10\0US\x02\0ab"), "Rows (0028,0010), VR \"US\", length 2, followed by 2 bytes");
+        assert_eq!(
+            text(b"\xE0\x7F\x10\0OW\0\0\xFF\xFF\xFF\xFF"),
+            "Pixel Data (7FE0,0010), VR \"OW\", undefined length, followed by 0 bytes"
+        );
+        assert_eq!(
+            text(b"\xE0\x7F\x10\0OW\x01\x02\x08\0\0\0a"),
+            "Pixel Data (7FE0,0010), VR \"OW\", reserved bytes 01 02, length 8, followed by 1 byte"
+        );
+        assert_eq!(
+            text(b"\xE0\x7F\x10\0OW\0\0\x08"),
+            "Pixel Data (7FE0,0010), VR \"OW\", no length, followed by 0 bytes"
+        );
+        assert_eq!(text(b"\xFE\xFF\0\xE0\x04\0\0\0abcd"), "Item (FFFE,E000), length 4, followed by 4 bytes");
+        assert_eq!((header(b"\x28\0\x10\0US\x02\0").tag, header(b"").tag), (tags::ROWS, 0));
+    }
+
+    #[test]
+    fn findings_on_a_line() {
+        let found = [Finding::plain(String::from("a")), Finding { tag: tags::ROWS, row: 7, text: String::from("b") }];
+        assert_eq!(line(&found), "a; b");
+        assert_eq!(found[0].json(), json!({ "text": "a" }));
+        assert_eq!(found[1].json(), json!({ "tag": "(0028,0010)", "row": 7, "text": "b" }));
+    }
+}

@@ -9,9 +9,11 @@ use std::path::{Path, PathBuf};
 use crate::codes::Code;
 use crate::files;
 use crate::head;
+use crate::image::{is_picture_name, wrong_name, Format, Image};
 use crate::names::tags;
-use crate::output::{note_of, note_unwritten, Status};
-use crate::picture::{self, explain, explain_aside, Failure, Format, Image, Run};
+use crate::output::{may_write, note_of, note_unwritten, Lines, Status};
+use crate::results::{self, explain, Failure};
+use crate::run::Run;
 
 /// Which frames of a run.
 #[derive(Clone, Copy, PartialEq, Eq)]
@@ -23,12 +25,22 @@ pub enum Frames {
 
 impl Frames {
     /// The first and the last.
-    fn ends(self, run: &Run) -> (u64, u64) {
+    pub fn ends(self, run: &Run) -> (u64, u64) {
         match self {
             Frames::One(frame) => (frame, frame),
             Frames::Some(first, last) => (first, last),
             Frames::All => (1, run.frames()),
         }
+    }
+
+    /// The same, for drawing them one after the other. If the run lacks the last one, that is known before the first is drawn, so either all
+    /// are drawn or none.
+    fn drawable_ends(self, run: &mut Run) -> Result<(u64, u64), Failure> {
+        let (first, last) = self.ends(run);
+        if first != last {
+            run.draw(last)?;
+        }
+        Ok((first, last))
     }
 }
 
@@ -80,19 +92,28 @@ fn name(path: &Path, frame: u64, digits: usize, format: Option<Format>) -> PathB
     files::beside(path, &format!(".frame-{frame:0digits$}.{ending}"))
 }
 
+/// Where the picture of a frame is written.
+fn target(path: &Path, frames: Frames, frame: u64, digits: usize, wanted: &Wanted) -> PathBuf {
+    match wanted.output {
+        Some(output) if !is_folder(output, frames) => PathBuf::from(output),
+        folder => folder.unwrap_or_else(|| Path::new("")).join(name(path, frame, digits, wanted.format)),
+    }
+}
+
 /// Whether this is the name of a folder for pictures: there are several, it ends in a slash, or it is a folder without a picture's ending.
 fn is_folder(path: &Path, frames: Frames) -> bool {
     let several = !matches!(frames, Frames::One(_));
-    several || path.to_string_lossy().ends_with('/') || path.is_dir() && !picture::is_picture_name(path)
+    several || path.to_string_lossy().ends_with('/') || path.is_dir() && !is_picture_name(path)
 }
 
-/// What is wrong with a name for these frames, if anything; asked before anything is drawn.
-pub fn objection(output: Option<&Path>, frames: Frames) -> Option<String> {
+/// What is wrong with a name for these frames, or with a format beside it, if anything; asked before anything is drawn.
+pub fn objection(output: Option<&Path>, frames: Frames, format: Option<Format>) -> Option<String> {
     let path = output.filter(|path| *path != Path::new("-"))?;
-    let picture = picture::is_picture_name(path);
+    let (picture, shown) = (is_picture_name(path), files::printed(path));
     match is_folder(path, frames) {
-        true if picture => Some(format!("{}: several frames need a folder, or - for standard output", path.display())),
-        false if !picture => Some(picture::wrong_name(path)),
+        true if picture => Some(format!("{shown}: several frames need a folder, or - for standard output")),
+        false if !picture => Some(wrong_name(path)),
+        false if format.is_some() => Some(format!("{shown}: the name of the picture gives its format; leave out --as")),
         _ => None,
     }
 }
@@ -104,8 +125,11 @@ fn to_standard_output(
     frames: Frames,
     wanted: &Wanted,
     out: &mut dyn Write,
-) -> io::Result<Status> {
-    let (first, last) = frames.ends(run);
+) -> io::Result<Result<(), Failure>> {
+    let (first, last) = match frames.drawable_ends(run) {
+        Ok(ends) => ends,
+        Err(failure) => return Ok(Err(failure)),
+    };
     let format = wanted.format.unwrap_or(Format::Png);
     for frame in first..=last {
         let content = drawn(run, frame, wanted.both).and_then(|(image, about)| Ok((image.encoded(format)?, about)));
@@ -114,35 +138,37 @@ fn to_standard_output(
                 out.write_all(&content)?;
                 note_of(path, &about);
             }
-            Err(failure) => return Ok(explain_aside(path, failure)),
+            Err(failure) => return Ok(Err(failure)),
         }
     }
-    Ok(Status::Fine)
+    Ok(Ok(()))
 }
 
 /// The picture of each frame in a file of its own.
 fn to_files(path: &Path, run: &mut Run, frames: Frames, wanted: &Wanted, out: &mut dyn Write) -> io::Result<Status> {
-    let (first, last) = frames.ends(run);
+    let mut lines = Lines::Out(out);
+    let (first, last) = match frames.drawable_ends(run) {
+        Ok(ends) => ends,
+        Err(failure) => return explain(path, failure, &mut lines),
+    };
     let folder = wanted.output.filter(|output| is_folder(output, frames));
     let digits = if matches!(frames, Frames::One(_)) { 1 } else { run.frames().to_string().len() };
-    // If the first or the last is not in the run, nothing is written.
-    if let Err(failure) = run.draw(first).and_then(|_| run.draw(last)) {
-        return explain(path, failure, out);
-    }
-    if let Some(Err(error)) = folder.map(fs::create_dir_all) {
-        note_unwritten(folder.unwrap_or(path), &error);
+    if !(first..=last).all(|frame| may_write(&target(path, frames, frame, digits, wanted), path)) {
         return Ok(Status::Failed);
     }
     for frame in first..=last {
         let (image, about) = match drawn(run, frame, wanted.both) {
             Ok(drawn) => drawn,
-            Err(failure) => return explain(path, failure, out),
+            Err(failure) => return explain(path, failure, &mut lines),
         };
-        let to = match (folder, wanted.output) {
-            (None, Some(output)) => PathBuf::from(output),
-            _ => folder.unwrap_or_else(|| Path::new("")).join(name(path, frame, digits, wanted.format)),
-        };
-        let status = picture::write(&image, path, &to, &about, out)?;
+        // The folder is made once there is a picture for it.
+        let made = folder.filter(|_| frame == first).map(|folder| (folder, fs::create_dir_all(folder)));
+        if let Some((folder, Err(error))) = made {
+            note_unwritten(folder, &error);
+            return Ok(Status::Failed);
+        }
+        let to = target(path, frames, frame, digits, wanted);
+        let status = results::write_image(&image, &to, &about, &mut lines)?;
         if status != Status::Fine {
             return Ok(status);
         }
@@ -152,13 +178,21 @@ fn to_files(path: &Path, run: &mut Run, frames: Frames, wanted: &Wanted, out: &m
 
 /// Draws frames.
 pub fn show(path: &Path, frames: Frames, wanted: &Wanted, out: &mut dyn Write) -> io::Result<Status> {
-    let to_stdout = wanted.output == Some(Path::new("-"));
-    match Run::open(path, wanted.form) {
-        Ok(mut run) if to_stdout => to_standard_output(path, &mut run, frames, wanted, out),
-        Ok(mut run) => to_files(path, &mut run, frames, wanted, out),
-        Err(failure) if to_stdout => Ok(explain_aside(path, failure)),
-        Err(failure) => explain(path, failure, out),
+    if wanted.output != Some(Path::new("-")) {
+        // The names of several pictures depend on how many frames the run has.
+        if matches!(frames, Frames::One(frame) if !may_write(&target(path, frames, frame, 1, wanted), path)) {
+            return Ok(Status::Failed);
+        }
+        return match Run::open(path, wanted.form) {
+            Ok(mut run) => to_files(path, &mut run, frames, wanted, out),
+            Err(failure) => explain(path, failure, &mut Lines::Out(out)),
+        };
     }
+    let drawn = match Run::open(path, wanted.form) {
+        Ok(mut run) => to_standard_output(path, &mut run, frames, wanted, out)?,
+        Err(failure) => Err(failure),
+    };
+    drawn.map_or_else(|failure| explain(path, failure, &mut Lines::Aside), |()| Ok(Status::Fine))
 }
 
 /// Frames per second if neither the caller nor the run says how many, and the most that a PNG can say.
@@ -167,14 +201,11 @@ const MOST_RATE: u32 = 1000;
 
 /// An animated PNG of frames, and a description of it.
 fn animated(run: &mut Run, frames: Frames, both: bool, rate: Option<u16>) -> Result<(Vec<u8>, String), Failure> {
-    let (first, last) = frames.ends(run);
+    let (first, last) = frames.drawable_ends(run)?;
     let said = [tags::RECOMMENDED_DISPLAY_FRAME_RATE, tags::CINE_RATE]
         .into_iter()
         .find_map(|tag| run.number(tag).filter(|rate| (1..=MOST_RATE).contains(rate)));
     let rate = rate.unwrap_or_else(|| said.map_or(RATE, |rate| rate as u16));
-    // If the first or the last is not in the run, nothing is begun.
-    run.draw(first)?;
-    run.draw(last)?;
     let count = u32::try_from(last - first + 1).unwrap_or(u32::MAX);
     let (width, height) = run.size();
     let width = if both { 2 * width } else { width };
@@ -206,9 +237,12 @@ pub fn movie(
     out: &mut dyn Write,
 ) -> io::Result<Status> {
     let to = wanted.output.map_or_else(|| files::beside(path, ".movie.png"), PathBuf::from);
+    if !may_write(&to, path) {
+        return Ok(Status::Failed);
+    }
     match Run::open(path, wanted.form).and_then(|mut run| animated(&mut run, frames, wanted.both, rate)) {
-        Ok((content, about)) => picture::write_file(Ok(content), path, &to, &about, out),
-        Err(failure) => explain(path, failure, out),
+        Ok((content, about)) => results::write(Ok(content), &to, &about, &mut Lines::Out(out)),
+        Err(failure) => explain(path, failure, &mut Lines::Out(out)),
     }
 }
 
@@ -235,9 +269,12 @@ mod tests {
 
     #[test]
     fn wrong_names() {
-        assert!(objection(Some(Path::new("x.png")), Frames::One(1)).is_none());
-        assert!(objection(Some(Path::new("x.jpg")), Frames::One(1)).is_some());
-        assert!(objection(Some(Path::new("x.png")), Frames::All).is_some());
-        assert!(objection(Some(Path::new("-")), Frames::All).is_none() && objection(None, Frames::All).is_none());
+        let objects = |output: &str, frames, format| objection(Some(Path::new(output)), frames, format).is_some();
+        assert!(!objects("x.png", Frames::One(1), None) && objects("x.jpg", Frames::One(1), None));
+        assert!(objects("x.png", Frames::All, None) && !objects("x", Frames::All, Some(Format::Pgm)));
+        assert!(
+            objects("x.png", Frames::One(1), Some(Format::Pgm)) && !objects("x/", Frames::One(1), Some(Format::Pgm))
+        );
+        assert!(!objects("-", Frames::All, Some(Format::Pgm)) && objection(None, Frames::All, None).is_none());
     }
 }

@@ -217,3 +217,55 @@ fn syntax_name(uid: &str) -> Option<&'static str> {
     };
     Some(name)
 }
+
+#[cfg(test)]
+mod tests {
+    use super::*;
+
+    /// The preamble and the mark, then these bytes.
+    fn marked(rest: &[u8]) -> Vec<u8> {
+        [&[0; 128][..], b"DICM", rest].concat()
+    }
+
+    #[test]
+    fn uids_of_a_head() {
+        let class = b"\x02\0\x02\0UI\x06\x001.2.3\0";
+        let version = b"\x02\0\x01\0OB\0\0\x02\0\0\0\0\x01";
+        let of = |rest: &[u8], tag| uid(&marked(rest), tag);
+        let head = [&version[..], class].concat();
+        assert_eq!(of(&head, tags::MEDIA_STORAGE_SOP_CLASS_UID).as_deref(), Some("1.2.3"));
+        // Neither a later tag nor one behind the head, nor what is cut short.
+        assert_eq!(of(&head, tags::TRANSFER_SYNTAX_UID), None);
+        let other = b"\x08\0\x16\0UI\x04\x001.2\0";
+        assert_eq!(of(&[&other[..], class].concat(), tags::MEDIA_STORAGE_SOP_CLASS_UID), None);
+        assert_eq!((of(&head[..20], tags::MEDIA_STORAGE_SOP_CLASS_UID), uid(b"", tags::ROWS)), (None, None));
+        assert_eq!(of(b"\x02\0\x01\0OB\0\0\xFF\xFF\xFF\xFF", tags::MEDIA_STORAGE_SOP_CLASS_UID), None);
+    }
+
+    #[test]
+    fn uids_in_print() {
+        assert_eq!(uid_text(b"1.2\0").as_deref(), Some("1.2"));
+        assert_eq!(uid_text(b"1.2\x1B\xFF 3").as_deref(), Some("1.2???3"));
+        assert_eq!(uid_text(&[b'1'; 100]).map(|text| text.len()), Some(64));
+    }
+
+    #[test]
+    fn heads_and_data_sets() {
+        let file = marked(b"\x02\0\0\0UL\x04\0\x03\0\0\0abcdef");
+        assert_eq!(parts(Form::File, &file), (&file[132..147], &b"def"[..]));
+        // A length beyond the end, none, and no head.
+        assert_eq!(parts(Form::File, &file[..145]), (&file[132..145], &b""[..]));
+        assert_eq!(parts(Form::File, &marked(b"\x02\0\x01\0OB")), (&b""[..], &b""[..]));
+        assert_eq!(parts(Form::Bare, &file), (&b""[..], &file[..]));
+    }
+
+    #[test]
+    fn transfer_syntaxes() {
+        assert_eq!(syntax_name("1.2.840.10008.1.2"), Some("Implicit VR Little Endian"));
+        assert_eq!(syntax_name("1.2.840.10008.1.2.4.50"), Some("JPEG Baseline"));
+        assert_eq!((syntax_name("1.2.840.10008.1.2.7"), syntax_name("1.2.3")), (None, None));
+        let file = marked(b"\x02\0\x10\0UI\x04\x001.2\0");
+        assert!(wanted(&file).starts_with("it is 1.2; ask the sender for Explicit VR Little Endian "));
+        assert!(wanted(b"").starts_with("its head names another; ask the sender for "));
+    }
+}

@@ -20,9 +20,9 @@ use crate::head::Judged;
 use crate::keeping::{self, Keeping, Kept};
 use crate::library::STACK;
 use crate::looking::{self, Looked, What};
-use crate::output::{line, note, note_of, Object, Status};
+use crate::output::{line, may_write, note, note_of, Object, Status};
 use crate::settling::Settling;
-use crate::values::counted;
+use crate::values::{counted, listed};
 
 /// What `luux judge` was asked.
 pub struct Wanted {
@@ -68,7 +68,7 @@ impl Report {
     fn text(&self, searches: bool) -> String {
         let mut text = match &self.looked {
             Looked::Judged(judged) if searches && judged.answer.is_done() => {
-                format!("{}; {} rows looked at", judged.line(), judged.answer.searches)
+                format!("{}; searches: {}", judged.line(), counted(judged.answer.searches as usize, "row"))
             }
             Looked::Judged(judged) => judged.line(),
             Looked::Other(_, what) => format!("not ours: {what}"),
@@ -177,7 +177,7 @@ impl<'a> Batch<'a> {
     fn judge(&self, stop: &AtomicBool, reports: &Sender<(usize, Report)>) {
         let one = |buffer: &mut RowBuffer, number: usize| {
             if !stop.load(Ordering::Relaxed) {
-                // Nobody receives only when no more lines are wanted.
+                // The receiver is gone only once no more lines are wanted.
                 let _ = reports.send((number, self.report(number, buffer)));
             }
         };
@@ -210,6 +210,17 @@ fn same_slip<'a>(found: &'a [Found], folder: &Path) -> Option<(&'a Path, &'a Pat
         }
     }
     None
+}
+
+/// Whether every slip may be written: none is one of the files themselves.
+fn may_write_slips(found: &[Found], folder: &Path) -> bool {
+    // All slips have this ending, and few other files do.
+    let is_named_so = |path: &&Path| path.extension().map_or(false, |ending| ending == "slip");
+    let inputs: Vec<&Path> = found.iter().map(|one| one.path.as_path()).filter(is_named_so).collect();
+    found.iter().all(|one| {
+        let slip = keeping::slip_path(folder, &one.path);
+        inputs.iter().all(|input| input.file_name() != slip.file_name() || may_write(&slip, input))
+    })
 }
 
 /// A progress bar on standard error, if that is a terminal and there is more than one file.
@@ -249,34 +260,32 @@ impl Counts {
         self.not_moved += usize::from(report.kept.move_failed());
     }
 
+    /// How many were judged, or should have been.
+    fn judged(&self) -> usize {
+        self.accepted + self.refused + self.unread
+    }
+
     fn files(&self) -> usize {
-        self.accepted + self.refused + self.unread + self.others + self.arriving
+        self.judged() + self.others + self.arriving
     }
 
     fn text(&self, finding: &Finding) -> String {
-        let mut text = format!(
-            "{}: {} accepted, {} refused, {} could not be read",
+        let slips = if self.slips_lost == 1 { "slip could not be written" } else { "slips could not be written" };
+        let more = [
+            (self.others, "not ours"),
+            (self.arriving, "arriving"),
+            (self.slips_lost, slips),
+            (self.not_moved, "could not be moved"),
+        ];
+        format!(
+            "{}: {} accepted, {} refused, {} could not be read{}{}",
             counted(self.files(), "file"),
             self.accepted,
             self.refused,
-            self.unread
-        );
-        for (count, what) in [
-            (self.others, "not ours"),
-            (self.arriving, "arriving"),
-            (
-                self.slips_lost,
-                if self.slips_lost == 1 { "slip could not be written" } else { "slips could not be written" },
-            ),
-            (self.not_moved, "could not be moved"),
-            (finding.skipped.len(), "skipped"),
-            (finding.left_out, "left out by --include or --exclude"),
-        ] {
-            if count > 0 {
-                text.push_str(&format!(", {count} {what}"));
-            }
-        }
-        text
+            self.unread,
+            listed(&more),
+            listed(&finding.passed_over())
+        )
     }
 }
 
@@ -343,7 +352,7 @@ fn judge_all(batch: &Batch, printing: &mut Printing) -> io::Result<()> {
     })
 }
 
-/// The files, unless there are none or two would share a slip.
+/// The files, unless there are none, two would share a slip, or the slip of one would be written over another.
 fn find(wanted: &Wanted) -> Option<Finding> {
     let finding = wanted.inputs.find(wanted.keeping.folders());
     if finding.found.is_empty() {
@@ -358,6 +367,10 @@ fn find(wanted: &Wanted) -> Option<Finding> {
                 files::printed(other)
             ),
         );
+        note("nothing was judged");
+        return None;
+    }
+    if wanted.keeping.slips.as_deref().map_or(false, |folder| !may_write_slips(&finding.found, folder)) {
         note("nothing was judged");
         return None;
     }
@@ -393,8 +406,8 @@ pub fn run(wanted: &Wanted, out: &mut dyn Write) -> io::Result<Status> {
     } else {
         writeln!(printing.out, "{summary}")?;
     }
-    if printing.counts.others == printing.counts.files() {
-        note("nothing was judged: no runs were found");
+    if printing.counts.judged() == 0 {
+        note("nothing was judged: no runs were found, or all are still arriving");
         return Ok(Status::Failed);
     }
     Ok(printing.status)

@@ -59,7 +59,7 @@ impl Keeping {
             verdict.and_then(
                 |answer| if answer.is_done() { self.move_accepted.as_ref() } else { self.move_refused.as_ref() },
             );
-        // A file whose slip is missing stays for the next time.
+        // A file without its slip stays where it is, for the next run of luux.
         if let (Some(folder), false) = (folder, kept.failed()) {
             let to = under(folder, path);
             let moved = rename(path, before, &to);
@@ -149,7 +149,25 @@ fn with_ending(path: &Path, ending: &str) -> PathBuf {
     path.with_file_name(name)
 }
 
+/// Larger files are not read to see whether they are slips.
+const SLIP_MOST: u64 = 64;
+
+/// Whether a path leads to a slip; an error if what is there cannot be read.
+fn slip_at(path: &Path) -> io::Result<bool> {
+    let small = fs::metadata(path).is_ok_and(|about| about.is_file() && about.len() <= SLIP_MOST);
+    Ok(small && library::read_slip(&fs::read(path)?).is_done())
+}
+
+/// Whether a path leads to a slip.
+pub fn is_slip(path: &Path) -> bool {
+    slip_at(path).unwrap_or(false)
+}
+
+/// Writes a slip, never over anything but a slip.
 fn write_slip(path: &Path, answer: Answer) -> Result<(), String> {
+    if fs::symlink_metadata(path).is_ok() && !is_slip(path) {
+        return Err(String::from("that file exists already, and is no slip"));
+    }
     let mut slip = [0; SLIP_SIZE];
     match library::write_slip(answer, &mut slip) {
         Code::Done => files::write_whole(path, &slip, true).map_err(|error| files::trouble(&error)),
@@ -159,8 +177,10 @@ fn write_slip(path: &Path, answer: Answer) -> Result<(), String> {
 
 /// Moves a slip, if there is one, to a name that no file has yet.
 fn set_aside(slip: &Path) -> Option<Result<PathBuf, String>> {
-    if fs::symlink_metadata(slip).is_err() {
-        return None;
+    match slip_at(slip) {
+        Ok(true) => {}
+        Ok(false) => return None,
+        Err(error) => return Some(Err(files::trouble(&error))),
     }
     for number in 1..u32::MAX {
         let ending = if number == 1 { String::from(".old") } else { format!(".old-{number}") };
@@ -210,6 +230,19 @@ mod tests {
         assert_eq!(failed.behind("code 1"), "; its slip s cannot be written: no room; not moved to m: it is a link");
         assert_eq!(failed.behind("It is so."), " Its slip s cannot be written: no room. Not moved to m: it is a link.");
         assert_eq!(Kept::default().behind("accepted"), "");
+    }
+
+    #[test]
+    fn only_slips_are_replaced() {
+        let folder = tempfile::tempdir().unwrap();
+        let slip = folder.path().join("x.slip");
+        assert!(!is_slip(&slip) && set_aside(&slip).is_none());
+        assert!(write_slip(&slip, Answer::default()).is_ok() && is_slip(&slip));
+        assert!(write_slip(&slip, Answer::default()).is_ok());
+        assert_eq!(set_aside(&slip), Some(Ok(folder.path().join("x.slip.old"))));
+        fs::write(&slip, b"a run").unwrap();
+        assert!(write_slip(&slip, Answer::default()).is_err() && set_aside(&slip).is_none());
+        assert!(fs::read(&slip).unwrap() == b"a run" && !is_slip(folder.path()));
     }
 
     #[test]

@@ -170,7 +170,9 @@ fn wait<T: DeserializeOwned>(mut child: Child, limit: Duration) -> io::Result<Re
         let mut said = Vec::new();
         pipe.map_or(Ok(0), |mut pipe| pipe.read_to_end(&mut said)).map(|_| said)
     })?;
-    let Some(status) = child.wait_timeout(limit)? else {
+    // A limit of 0 is over at once, even if the machine let the other process end before this one looks.
+    let ended = if limit.is_zero() { None } else { child.wait_timeout(limit)? };
+    let Some(status) = ended else {
         child.kill()?;
         // If a disk hangs, the process stays until the disk answers. Nobody waits for it or for the listener.
         child.wait_timeout(Duration::from_secs(1))?;

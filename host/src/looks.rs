@@ -37,11 +37,12 @@ pub enum Look {
 }
 
 use crate::names::tags::*;
+use crate::sentences::COUNT;
 use Look::{Both, Bytes, Count, Each, First, Given, Items, Product, Value};
 use Place::{Group, Here, Own, Root, Shared};
 
 /// Rule 1 first.
-pub const LOOKS: [&[Look]; 39] = [
+pub const LOOKS: [&[Look]; COUNT] = [
     &[Value(Root, SOP_CLASS_UID)],
     &[Value(Root, MODALITY), Value(Root, SOP_CLASS_UID)],
     &[Value(Root, IMAGE_TYPE)],

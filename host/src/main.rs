@@ -15,6 +15,7 @@ mod found;
 mod frames;
 mod head;
 mod identity;
+mod image;
 mod judging;
 mod keeping;
 mod library;
@@ -27,6 +28,8 @@ mod other;
 mod output;
 mod picture;
 mod report;
+mod results;
+mod run;
 mod sampling;
 mod sentences;
 mod settling;
@@ -125,9 +128,10 @@ struct ManyRuns {
     /// Leave out files and folders that match GLOB; may be repeated
     #[arg(long, value_name = "GLOB", value_parser = finding::pattern)]
     exclude: Vec<Glob>,
-    /// List files that were written to less than SECONDS ago, or are still growing, as arriving, and do not read them
+    /// Do not read files that were written to less than SECONDS ago or are still growing; list them as arriving
     ///
-    /// Each file is checked twice for that, a second apart. A file that another program has open for writing is arriving too.
+    /// Each file is checked twice for that, a second apart, or SECONDS if that is less. A file that another program has open for writing is
+    /// arriving too.
     #[arg(long, value_name = "SECONDS", value_parser = seconds)]
     settle: Option<Duration>,
     /// Give up on a file after SECONDS and go on with the next; each file is then read in a process of its own
@@ -177,7 +181,7 @@ enum Command {
         #[arg(long, requires = "names")]
         patient: bool,
     },
-    /// Judge files by the 39 rules, one line for each
+    /// Judge files by all rules, one line for each
     ///
     /// A line says that the run is accepted; or it gives the first broken rule, the lowest frame that breaks it (0 if the rule is not about
     /// single frames), the item and row of that frame, what the rule asks, and what was found; or the code and the byte at which reading
@@ -191,15 +195,15 @@ enum Command {
         #[command(flatten)]
         keeping: keeping::Keeping,
         /// Print one JSON object per line; the summary goes to standard error
-        #[arg(long)]
+        #[arg(long, group = "identity")]
         json: bool,
         /// Print what identifies the run below each line: SOP Instance and Study Instance UID, institution, station, time
-        #[arg(long, conflicts_with = "json")]
+        #[arg(long, group = "identity")]
         long: bool,
         /// With --long or --json, print the patient's name, ID and birth date too
-        #[arg(long)]
+        #[arg(long, requires = "identity")]
         patient: bool,
-        /// For accepted runs, print how many rows judging looks at, as docs/SEARCHES.md counts them; --json always does
+        /// For accepted runs, print the sum of the searches, as docs/SEARCHES.md defines it; --json always does
         #[arg(long)]
         searches: bool,
         #[command(flatten)]
@@ -220,7 +224,7 @@ enum Command {
         output: Option<PathBuf>,
         /// The format of pictures in a folder or on standard output [default: png]
         #[arg(long = "as", value_name = "FORMAT")]
-        format: Option<picture::Format>,
+        format: Option<image::Format>,
         #[command(flatten)]
         halves: Halves,
     },
@@ -258,9 +262,9 @@ enum Command {
     Sheet {
         #[command(flatten)]
         run: OneRun,
-        /// The frames, such as 5-12 or 7 [default: all]
-        #[arg(value_name = "A-B", value_parser = frame_range)]
-        frames: Option<(u64, u64)>,
+        /// A frame, counted from 1, a range such as 5-12, or all
+        #[arg(value_name = "FRAMES", value_parser = frames::frames, default_value = "all")]
+        frames: frames::Frames,
         /// Print all numbers instead, one per line: 256 counts, native frames, lowest and highest level, sum of all levels
         #[arg(long, conflicts_with = "json")]
         numbers: bool,
@@ -404,7 +408,21 @@ enum SlipCommand {
 
 /// Ends with a usage message.
 fn misuse(text: impl Display) -> ! {
-    Arguments::command().error(ErrorKind::ValueValidation, text).exit()
+    end_of_usage(&Arguments::command().error(ErrorKind::ValueValidation, text))
+}
+
+/// Ends with clap's message: help and version as they are, an error with nothing in it that would steer a terminal.
+fn end_of_usage(error: &clap::Error) -> ! {
+    if !error.use_stderr() {
+        error.exit();
+    }
+    let shown = |letter| match letter {
+        '\n' | '\\' => String::from(letter),
+        letter => files::escaped(letter),
+    };
+    // If standard error is closed, nobody wants to know.
+    let _ = io::stderr().write_all(error.to_string().chars().map(shown).collect::<String>().as_bytes());
+    std::process::exit(Status::Failed as i32)
 }
 
 /// A time in seconds, with or without a fraction.
@@ -413,16 +431,17 @@ fn seconds(text: &str) -> Result<Duration, &'static str> {
     number.ok_or("expected a number of seconds, such as 30 or 0.5")
 }
 
-/// Two frames with a dash between them, or one.
-fn frame_range(text: &str) -> Result<(u64, u64), &'static str> {
-    let (first, last) = text.split_once('-').unwrap_or((text, text));
-    Ok((frame_number(first)?, frame_number(last)?))
+/// Ends with a usage message for `-`, which `show` takes for standard output, and which would else be the name of a file.
+fn check_file(path: &Path) {
+    if path == Path::new("-") {
+        misuse("-: only show writes to standard output; name a file");
+    }
 }
 
 /// Ends with a usage message if luux does not write pictures of this name.
 fn check_picture(path: Option<&Path>) {
-    if let Some(path) = path.filter(|path| !picture::is_picture_name(path)) {
-        misuse(picture::wrong_name(path));
+    if let Some(path) = path.filter(|path| !image::is_picture_name(path)) {
+        misuse(image::wrong_name(path));
     }
 }
 
@@ -442,16 +461,16 @@ fn run(command: Command, out: &mut dyn Write) -> io::Result<Status> {
             judging::run(&judging::Wanted { inputs, keeping, json, jobs, long, patient, searches }, out)
         }
         Command::Show { run, frames, output, format, halves: Halves { both } } => {
-            if let Some(text) = frames::objection(output.as_deref(), frames) {
+            if let Some(text) = frames::objection(output.as_deref(), frames, format) {
                 misuse(text);
             }
             let wanted = frames::Wanted { form: run.form(), both, format, output: output.as_deref() };
             frames::show(&run.file, frames, &wanted, out)
         }
         Command::Movie { run, frames, output, rate, halves: Halves { both } } => {
-            let is_png = |path: &Path| picture::format_of(path) == Some(picture::Format::Png);
+            let is_png = |path: &Path| image::format_of(path) == Some(image::Format::Png);
             if let Some(path) = output.as_deref().filter(|path| !is_png(path)) {
-                misuse(format!("{}: the name of a movie must end in .png", path.display()));
+                misuse(format!("{}: the name of a movie must end in .png", files::printed(path)));
             }
             let wanted = frames::Wanted { form: run.form(), both, format: None, output: output.as_deref() };
             frames::movie(&run.file, frames, rate, &wanted, out)
@@ -473,15 +492,17 @@ fn run(command: Command, out: &mut dyn Write) -> io::Result<Status> {
         Command::Compare { run, what, picture, tolerance, output } => {
             check_picture(output.as_deref());
             let wanted = comparing::Wanted { form: run.form(), tolerance, output: output.as_deref() };
-            let Some(other) = picture else {
-                return comparing::folder(&run.file, &what, &wanted, out);
-            };
-            match frame_number(what.to_str().unwrap_or_default()) {
-                Ok(frame) => comparing::picture(&run.file, frame, &other, &wanted, out),
-                Err(text) => misuse(format!("{}: {text}", what.display())),
+            match (frame_number(what.to_str().unwrap_or_default()), picture) {
+                (Ok(frame), Some(other)) => comparing::picture(&run.file, frame, &other, &wanted, out),
+                (Err(text), Some(_)) => misuse(format!("{}: {text}", files::printed(&what))),
+                (Ok(frame), None) if !what.is_dir() => misuse(format!("frame {frame} needs a PICTURE to compare with")),
+                (_, None) => comparing::folder(&run.file, &what, &wanted, out),
             }
         }
-        Command::Canonical { run, output } => canonical::write(&run.file, run.form(), &output, out),
+        Command::Canonical { run, output } => {
+            check_file(&output);
+            canonical::write(&run.file, run.form(), &output, out)
+        }
         Command::Duplicates { runs, json } => {
             canonical::duplicates(&canonical::Wanted { inputs: Inputs::from(runs), json }, out)
         }
@@ -491,6 +512,7 @@ fn run(command: Command, out: &mut dyn Write) -> io::Result<Status> {
             picture::linear(&run.file, run.form(), frame, output.as_deref(), out)
         }
         Command::Report { runs, output, csv, patient, jobs } => {
+            check_file(&output);
             let (inputs, jobs) = (Inputs::from(runs), jobs.count());
             report::run(&report::Wanted { inputs, output, csv, patient, jobs }, out)
         }
@@ -506,7 +528,7 @@ fn run(command: Command, out: &mut dyn Write) -> io::Result<Status> {
 }
 
 fn work() -> Status {
-    let arguments = Arguments::parse();
+    let arguments = Arguments::try_parse().unwrap_or_else(|error| end_of_usage(&error));
     memory::limit_to(arguments.lending.memory.unwrap_or_else(memory::quarter));
     files::start(arguments.lending.map);
     let mut out = io::stdout().lock();
@@ -531,4 +553,38 @@ fn main() -> ExitCode {
         }
     };
     ExitCode::from(status as u8)
+}
+
+#[cfg(test)]
+mod tests {
+    use super::*;
+
+    #[test]
+    fn numbers_of_seconds() {
+        assert_eq!((seconds("30"), seconds("0.5")), (Ok(Duration::from_secs(30)), Ok(Duration::from_millis(500))));
+        assert_eq!(seconds("0"), Ok(Duration::ZERO));
+        for wrong in ["", "-1", "soon", "nan", "inf", "1e400", "1 s"] {
+            assert!(seconds(wrong).is_err(), "{wrong}");
+        }
+    }
+
+    /// clap finds faults of the description, such as two options of one name.
+    #[test]
+    fn the_commands_are_well_described() {
+        Arguments::command().debug_assert();
+    }
+
+    #[test]
+    fn options_that_need_others() {
+        let takes = |words: &str| Arguments::try_parse_from(words.split(' ')).is_ok();
+        assert!(takes("luux judge a --long --patient") && takes("luux judge a --json --patient"));
+        assert!(!takes("luux judge a --patient") && !takes("luux judge a --long --json"));
+        assert!(
+            takes("luux sheet a")
+                && takes("luux sheet a all")
+                && takes("luux sheet a 2-3")
+                && !takes("luux sheet a 3-2")
+        );
+        assert!(!takes("luux rows a --patient") && !takes("luux linear a 1 --csv -o x.png") && !takes("luux judge"));
+    }
 }

@@ -123,9 +123,9 @@ const WRONG: &str = "expected a number of bytes, with or without K, M or G after
 /// A number of bytes, such as 800M or 2G.
 pub fn bytes(text: &str) -> Result<u64, &'static str> {
     let digits = text.trim_end_matches(|letter: char| letter.is_ascii_alphabetic());
-    let factor: u64 = match &text[digits.len()..] {
+    let factor: u64 = match text[digits.len()..].to_ascii_uppercase().as_str() {
         "" => 1,
-        "K" | "k" => 1 << 10,
+        "K" => 1 << 10,
         "M" => 1 << 20,
         "G" => 1 << 30,
         _ => return Err(WRONG),
@@ -141,10 +141,10 @@ mod tests {
     #[test]
     fn numbers_of_bytes() {
         assert_eq!(
-            [bytes("17"), bytes("1K"), bytes("800M"), bytes("2G")],
-            [Ok(17), Ok(1 << 10), Ok(800 << 20), Ok(2 << 30)]
+            ["17", "1K", "1k", "800M", "800m", "2G", "2g"].map(bytes),
+            [17, 1 << 10, 1 << 10, 800 << 20, 800 << 20, 2 << 30, 2 << 30].map(Ok)
         );
-        for wrong in ["", "-1", "many", "4T", "1.5G", "99999999999999999999", "99999999999G"] {
+        for wrong in ["", "-1", "many", "4T", "1.5G", "1GB", "99999999999999999999", "99999999999G"] {
             assert!(bytes(wrong).is_err(), "{wrong}");
         }
     }

@@ -68,6 +68,11 @@ const STARTS: [(&[u8], &str); 11] = [
     (b"\0\0\0\x01Bud1", "a .DS_Store"),
 ];
 
+/// How an Office document of the newer kind starts: a ZIP archive whose first file lists the types of the others. Any other archive may hold runs.
+const ZIP: &[u8] = b"PK\x03\x04";
+const TYPES: &[u8] = b"[Content_Types].xml";
+const FIRST_NAME: usize = 30;
+
 /// How much of a file is read to see whether it is text.
 const TEXT: usize = 1 << 16;
 
@@ -83,6 +88,9 @@ fn plain(content: &[u8]) -> Option<&'static str> {
     }
     if content.starts_with(b"RIFF") && content.get(8..12) == Some(&b"WEBP"[..]) {
         return Some("a picture (WebP)");
+    }
+    if content.starts_with(ZIP) && content.get(FIRST_NAME..).is_some_and(|rest| rest.starts_with(TYPES)) {
+        return Some("an Office document");
     }
     is_text(&content[..content.len().min(TEXT)]).then_some("text")
 }
@@ -123,4 +131,43 @@ fn class_name(uid: &str) -> Option<&'static str> {
         _ => return None,
     };
     Some(name)
+}
+
+#[cfg(test)]
+mod tests {
+    use super::*;
+
+    #[test]
+    fn kinds_of_files() {
+        let what = |content: &[u8]| plain(content).unwrap_or_default();
+        assert_eq!((what(b""), what(b"notes\n"), what(b"%PDF-1.7\0")), ("an empty file", "text", "a PDF document"));
+        assert_eq!((what(b"\xFF\xD8\xFF\xE0"), what(b"P5\n1 1\n255\n\0")), ("a picture (JPEG)", "a picture (PGM)"));
+        assert_eq!((what(b"BM\x07\0\0\0\0"), what(b"BM\x08\0\0\0\0")), ("a picture (BMP)", ""));
+        assert_eq!((what(b"RIFF\0\0\0\0WEBP"), what(b"RIFF\0\0\0\0WAVE")), ("a picture (WebP)", ""));
+        let zip = |name: &[u8]| [ZIP, &[0; FIRST_NAME - 4], name].concat();
+        assert_eq!(
+            (what(&zip(b"[Content_Types].xml")), what(&zip(b"run.dcm")), what(ZIP)),
+            ("an Office document", "", "")
+        );
+    }
+
+    #[test]
+    fn texts() {
+        for text in ["", "a\tb\r\n", "\u{E9}\u{4E2D}", "\x0C\x1B[0m"] {
+            assert!(is_text(text.as_bytes()), "{text:?}");
+        }
+        assert!(is_text(b"\xE9 in Latin-1") && is_text(b"\xFF\xFEa\0") && is_text(b"\xFE\xFF\0a"));
+        // The first header of a data set has control characters.
+        assert!(!is_text(b"a\0") && !is_text(b"\x7F") && !is_text(b"\x08\0\x05\0CS"));
+        // Only the start of a long file is read.
+        let mut long = vec![b'a'; TEXT + 1];
+        long[TEXT] = 0;
+        assert_eq!(plain(&long), Some("text"));
+    }
+
+    #[test]
+    fn near_uids() {
+        assert!(is_near(OURS[0], OURS[0]) && is_near(OURS[0], &OURS[0].replace("12.1.1", "12.1.7")));
+        assert!(!is_near("1.2.3", "1.2.34") && !is_near("1.2.3", "1.3.4"));
+    }
 }

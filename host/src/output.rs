@@ -39,9 +39,37 @@ pub fn note_of(path: &Path, text: &str) {
     note(&format!("{}: {text}", files::printed(path)));
 }
 
+/// Where lines about files go: to standard output, or to standard error if standard output is for the result alone.
+pub enum Lines<'a> {
+    Out(&'a mut dyn Write),
+    Aside,
+}
+
+impl Lines<'_> {
+    pub fn put(&mut self, path: &Path, text: &str) -> io::Result<()> {
+        match self {
+            Lines::Out(out) => line(*out, path, text),
+            Lines::Aside => {
+                note_of(path, text);
+                Ok(())
+            }
+        }
+    }
+}
+
 /// The line about a file that cannot be written.
 pub fn note_unwritten(path: &Path, error: &io::Error) {
     note_of(path, &format!("cannot be written: {}", files::trouble(error)));
+}
+
+/// Whether a file may be written: not if it is an input, under whatever name, and then this says so. Asked before the input is read, which may
+/// take long and end in a refusal.
+pub fn may_write(to: &Path, input: &Path) -> bool {
+    let same = files::is_same(to, input);
+    if same {
+        note_of(to, "cannot be written: it is the input itself; name another file");
+    }
+    !same
 }
 
 /// A JSON object; its fields keep the order in which they are put.

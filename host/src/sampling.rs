@@ -5,10 +5,13 @@
 use std::io::{self, Write};
 use std::path::Path;
 
+use crate::frames::Frames;
 use crate::head::Form;
+use crate::image::Image;
 use crate::library::SHEET_NUMBERS;
-use crate::output::{line, note_of, Object, Status};
-use crate::picture::{self, Failure, Image, Run};
+use crate::output::{line, may_write, note_of, Lines, Object, Status};
+use crate::results::{self, Failure};
+use crate::run::Run;
 
 const LEVELS: usize = 256;
 
@@ -76,17 +79,16 @@ pub enum Print {
     Json,
 }
 
-/// What `luux sheet` was asked. Without `frames`, all of them.
+/// What `luux sheet` was asked.
 pub struct Wanted<'a> {
     pub form: Form,
-    pub frames: Option<(u64, u64)>,
+    pub frames: Frames,
     pub print: Print,
     pub output: Option<&'a Path>,
 }
 
-fn sample(path: &Path, form: Form, frames: Option<(u64, u64)>) -> Result<Sheet, Failure> {
-    let mut run = Run::open(path, form)?;
-    let (first, last) = frames.unwrap_or((1, run.frames()));
+fn sample(run: &mut Run, frames: Frames) -> Result<Sheet, Failure> {
+    let (first, last) = frames.ends(run);
     let numbers = run.sample(first, last)?;
     Ok(Sheet { first, last, numbers })
 }
@@ -114,8 +116,7 @@ fn print_plot(sheet: &Sheet, out: &mut dyn Write) -> io::Result<()> {
 }
 
 fn print_json(path: &Path, sheet: &Sheet, out: &mut dyn Write) -> io::Result<()> {
-    let mut object = Object::default();
-    object.put_path("file", path);
+    let mut object = Object::about(path);
     for (name, number) in [
         ("first", sheet.first),
         ("last", sheet.last),
@@ -175,17 +176,21 @@ fn plotted(sheet: &Sheet) -> Result<Image<u8>, String> {
 
 /// The picture of the sheet of all frames, and a line about it.
 pub fn plot(run: &mut Run) -> Result<(Image<u8>, String), Failure> {
-    let (first, last) = (1, run.frames());
-    let sheet = Sheet { first, last, numbers: run.sample(first, last)? };
+    let sheet = sample(run, Frames::All)?;
     Ok((plotted(&sheet)?, sheet.about()))
 }
 
-/// Samples a run.
+/// Samples a run. Numbers and JSON are for another program, so whatever else there is to say goes to standard error.
 pub fn run(path: &Path, wanted: &Wanted, out: &mut dyn Write) -> io::Result<Status> {
-    let sheet = match sample(path, wanted.form, wanted.frames) {
+    if wanted.output.map_or(false, |to| !may_write(to, path)) {
+        return Ok(Status::Failed);
+    }
+    let sampled = Run::open(path, wanted.form).and_then(|mut run| sample(&mut run, wanted.frames));
+    let plain = matches!(wanted.print, Print::Plot);
+    let sheet = match sampled {
         Ok(sheet) => sheet,
-        Err(failure) if !matches!(wanted.print, Print::Plot) => return Ok(picture::explain_aside(path, failure)),
-        Err(failure) => return picture::explain(path, failure, out),
+        Err(failure) if plain => return results::explain(path, failure, &mut Lines::Out(out)),
+        Err(failure) => return results::explain(path, failure, &mut Lines::Aside),
     };
     match wanted.print {
         Print::Plot => {
@@ -202,8 +207,9 @@ pub fn run(path: &Path, wanted: &Wanted, out: &mut dyn Write) -> io::Result<Stat
     let Some(to) = wanted.output else {
         return Ok(Status::Fine);
     };
+    let mut lines = if plain { Lines::Out(out) } else { Lines::Aside };
     match plotted(&sheet) {
-        Ok(image) => picture::write(&image, path, to, "histogram", out),
+        Ok(image) => results::write_image(&image, to, "plot", &mut lines),
         Err(trouble) => {
             note_of(path, &trouble);
             Ok(Status::Failed)

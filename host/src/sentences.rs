@@ -2,8 +2,10 @@
 
 use crate::codes::{Code, Coded};
 use crate::library::Answer;
+use crate::names::{tag_text, tags};
 
-// `RULES`: what each rule asks, rule 1 first. `build.rs` takes the sentences from the program `judge_one`.
+// `COUNT`: how many rules there are. `RULES`: what each asks, rule 1 first. `build.rs` takes the first from the header, the sentences from the
+// program `judge_one`.
 include!(concat!(env!("OUT_DIR"), "/rules.rs"));
 
 /// The sentence of a rule.
@@ -49,11 +51,16 @@ fn text(given: &Answer, more: &str, start: Option<usize>) -> String {
     format!("{numbers}{more}: {}", meaning(given))
 }
 
-/// Which item of the data set is a frame's.
+/// What a frame's item is called.
+pub fn frame_item(frame: u32) -> String {
+    format!("item {frame} of {}", tag_text(tags::PER_FRAME_FUNCTIONAL_GROUPS_SEQUENCE))
+}
+
+/// Which item of the data set is a frame's, and its row.
 fn item(frame: u32, row: u32) -> String {
     match row {
         0 => String::new(),
-        _ => format!(", item {frame} of (5200,9230), row {row}"),
+        _ => format!(", {}, row {row}", frame_item(frame)),
     }
 }
 
@@ -70,7 +77,8 @@ mod tests {
     #[test]
     fn the_build_takes_the_sentences() {
         let source = include_str!("../../crates/judge_one/src/sentence.rt");
-        assert_eq!(build::sentences(source).unwrap(), RULES);
+        let of = |source: &str| build::sentences(source, COUNT).map(|found| found.join("\n"));
+        assert_eq!(of(source).unwrap(), RULES.join("\n"));
         for (old, new) in [
             ("9 => say(b\"Samples", "40 => say(b\"Samples"),
             ("9 => say(b\"Samples", "9 => tell(b\"Samples"),
@@ -78,12 +86,14 @@ mod tests {
             ("US must be 1.\"),", "US must be 1\"),"),
             ("US must be 1.\"),", "US must be \\x31.\"),"),
             ("US must be 1.\"),", "US must be 1.\", 1),"),
-            ("39 => say(", "40 => say("),
+            (&format!("{COUNT} => say("), "0 => say("),
         ] {
             assert!(source.contains(old), "{old}");
-            assert!(build::sentences(&source.replacen(old, new, 1)).is_err(), "{new}");
+            assert!(of(&source.replacen(old, new, 1)).is_err(), "{new}");
         }
-        assert!(build::sentences("").is_err());
+        assert!(of("").is_err() && build::sentences(source, COUNT + 1).is_err());
+        assert_eq!(build::count(include_str!("../../include/luuxidgaan.h")), Some(COUNT));
+        assert_eq!((build::count(""), build::count("#define XA_RULES many")), (None, None));
     }
 
     /// An answer as the library would give it.
@@ -95,8 +105,9 @@ mod tests {
 
     #[test]
     fn each_rule_has_a_sentence() {
-        assert!((1..=39).all(|number| rule(number).ends_with('.') && rule(number).contains('(')));
-        assert_eq!((rule(0), rule(40), rule(u32::MAX)), ("no such rule", "no such rule", "no such rule"));
+        let last = COUNT as u32;
+        assert!((1..=last).all(|number| rule(number).ends_with('.') && rule(number).contains('(')));
+        assert!([0, last + 1, u32::MAX].iter().all(|&number| rule(number) == "no such rule"));
         assert!(rule(38).starts_with("Pixel Data (7FE0,0010) must be OW"));
     }
 

@@ -7,7 +7,7 @@ use std::time::Duration;
 use crate::files::{self, State};
 use crate::finding::Found;
 
-/// The least time between two looks at a file, to see whether it grows.
+/// The time between two looks at a file, to see whether it grows; less if `--settle` asks for less.
 const LOOK: Duration = Duration::from_secs(1);
 
 /// The files that were found, and their states at the first look.
@@ -19,7 +19,7 @@ pub struct Settling<'a> {
 }
 
 impl<'a> Settling<'a> {
-    /// Looks at the files for the first time, and waits until one that grows would have changed.
+    /// Looks at the files for the first time, and waits long enough for a growing file to change.
     pub fn of(found: &'a [Found], settle: Option<Duration>) -> Settling<'a> {
         let mut seen = Vec::new();
         if let Some(settle) = settle {

@@ -101,3 +101,62 @@ impl<'a> Table<'a> {
         self.frame_items().nth((frame as usize).checked_sub(1)?)
     }
 }
+
+#[cfg(test)]
+mod tests {
+    use super::*;
+
+    const UI: u32 = (b'U' as u32) << 8 | b'I' as u32;
+
+    /// A root element, a sequence of two items with an element each, and a last root element.
+    #[rustfmt::skip]
+    const ROWS: [u32; 7 * 7] = [
+        tags::SOP_CLASS_UID, UI, 0, 8, 2, 0, 0,
+        tags::PER_FRAME_FUNCTIONAL_GROUPS_SEQUENCE, SQ, 0, 22, 36, 4, 0,
+        tags::ITEM, 0, 1, 30, 10, 1, 2,
+        tags::FRAME_CONTENT_SEQUENCE, SQ, 1, 38, 0, 0, 3,
+        tags::ITEM, 0, 1, 48, 10, 1, 2,
+        tags::FRAME_VOI_LUT_SEQUENCE, SQ, 1, 56, 0, 0, 5,
+        tags::PIXEL_DATA, 0x4F57, 0, 70, 0, 0, 0,
+    ];
+
+    fn numbers(rows: impl Iterator<Item = Row>) -> Vec<u32> {
+        rows.map(|row| row.number).collect()
+    }
+
+    #[test]
+    fn members() {
+        let table = Table(&ROWS);
+        assert_eq!((table.count(), numbers(table.rows())), (7, (1..=7).collect()));
+        assert_eq!((numbers(table.members(0)), numbers(table.members(2))), (vec![1, 2, 7], vec![3, 5]));
+        assert_eq!(
+            (numbers(table.members(3)), numbers(table.members(4)), numbers(table.members(7))),
+            (vec![4], vec![], vec![])
+        );
+        assert!(table.row(0).is_none() && table.row(8).is_none() && numbers(table.members(u32::MAX)).is_empty());
+        assert!(numbers(Table(&[]).members(0)).is_empty());
+    }
+
+    #[test]
+    fn elements() {
+        let table = Table(&ROWS);
+        let number = |row: Option<Row>| row.map(|row| row.number);
+        assert_eq!((number(table.root(tags::PIXEL_DATA)), number(table.root(tags::ROWS))), (Some(7), None));
+        // An element of an item is none of the root, nor of another item.
+        assert_eq!(number(table.root(tags::FRAME_CONTENT_SEQUENCE)), None);
+        assert_eq!([3, 5].map(|item| number(table.element(item, tags::FRAME_VOI_LUT_SEQUENCE))), [None, Some(6)]);
+        assert_eq!([0, 1, 2, 3].map(|frame| number(table.frame_item(frame))), [None, Some(3), Some(5), None]);
+        assert!(numbers(table.items(0, tags::SHARED_FUNCTIONAL_GROUPS_SEQUENCE)).is_empty());
+    }
+
+    #[test]
+    fn rows_in_print() {
+        let row = |number| Table(&ROWS).row(number).unwrap();
+        assert_eq!([1, 2, 3].map(|number| row(number).vr_text()), ["UI", "SQ", "--"]);
+        assert_eq!(
+            [1, 2, 3].map(|number| (row(number).is_sequence(), row(number).is_item())),
+            [(false, false), (true, false), (false, true)]
+        );
+        assert_eq!((row(2).tag_text(), row(2).last(), row(7).last()), (String::from("(5200,9230)"), 6, 7));
+    }
+}

@@ -2,6 +2,7 @@
 
 use encoding_rs::Encoding;
 
+use crate::files;
 use crate::names::tags;
 use crate::table::{Row, Table};
 
@@ -25,18 +26,11 @@ impl<'a> Source<'a> {
         self.data.get(start..start.saturating_add(row.length as usize)).unwrap_or_default()
     }
 
-    /// The text of a value, without the padding at its end and with control characters as `\x0A`.
+    /// The text of a value, without the padding at its end. A backslash separates values; other characters that are not plain are escaped.
     pub fn text(&self, row: &Row) -> String {
         let bytes = self.bytes(row);
         let end = bytes.iter().rposition(|&byte| byte != 0 && byte != b' ').map_or(0, |last| last + 1);
-        let mut text = String::new();
-        for letter in self.letters.decode_without_bom_handling(&bytes[..end]).0.chars() {
-            match letter.is_control() || is_steering(letter) {
-                true => text.push_str(&format!("\\x{:02X}", letter as u32)),
-                false => text.push(letter),
-            }
-        }
-        text
+        self.letters.decode_without_bom_handling(&bytes[..end]).0.chars().map(shown).collect()
     }
 
     /// A value in at most so many characters: text in quotes, numbers separated by backslashes, otherwise the number of items or bytes.
@@ -59,14 +53,25 @@ impl<'a> Source<'a> {
     }
 }
 
-/// Characters that change the direction of a line or break it.
-fn is_steering(letter: char) -> bool {
-    matches!(letter, '\u{200E}' | '\u{200F}' | '\u{2028}'..='\u{202E}' | '\u{2066}'..='\u{2069}')
+/// A character of a value: as in the name of a file, but for backslashes, which separate values, and blanks of any width, which names of
+/// people and places have.
+fn shown(letter: char) -> String {
+    let blank = letter.is_whitespace() && !letter.is_control() && !matches!(letter, '\u{2028}' | '\u{2029}');
+    match blank || letter == '\\' {
+        true => String::from(letter),
+        false => files::escaped(letter),
+    }
 }
 
 /// A number of things.
 pub fn counted(count: usize, what: &str) -> String {
     format!("{count} {what}{}", if count == 1 { "" } else { "s" })
+}
+
+/// Counts behind a summary; those that are 0 are left out.
+pub fn listed(counts: &[(usize, &str)]) -> String {
+    let some = counts.iter().filter(|(count, _)| *count > 0);
+    some.map(|(count, what)| format!(", {count} {what}")).collect()
 }
 
 /// The start of a text, with dots if there is more of it.
@@ -147,4 +152,68 @@ fn encoding(named: &str) -> &'static Encoding {
         ("IR 203", encoding_rs::ISO_8859_15),
     ];
     known.into_iter().find(|(term, _)| has(term)).map_or(encoding_rs::WINDOWS_1252, |(_, encoding)| encoding)
+}
+
+#[cfg(test)]
+mod tests {
+    use super::*;
+
+    #[test]
+    fn counts() {
+        assert_eq!([0, 1, 2].map(|count| counted(count, "row")), ["0 rows", "1 row", "2 rows"]);
+        assert_eq!(listed(&[(0, "a"), (2, "b"), (1, "c")]), ", 2 b, 1 c");
+        assert_eq!(listed(&[(0, "a")]), "");
+    }
+
+    #[test]
+    fn long_texts() {
+        assert_eq!((shortened("abc", 3), shortened("abcd", 3)), (String::from("abc"), String::from("abc...")));
+        // Characters are counted, and never cut.
+        assert_eq!(shortened("\u{E9}\u{4E2D}x", 2), "\u{E9}\u{4E2D}...");
+        assert_eq!((shortened("", 0), shortened("a", 0)), (String::new(), String::from("...")));
+    }
+
+    #[test]
+    fn numbers_by_vr() {
+        let text = |vr, bytes: &[u8]| numbers(vr, bytes).map(|numbers| numbers.join("\\"));
+        let some = |text: &str| Some(String::from(text));
+        assert_eq!((text("US", &[1, 2, 255, 255]), text("SS", &[254, 255])), (some("513\\65535"), some("-2")));
+        assert_eq!((text("UL", &[0, 0, 0, 128]), text("SL", &[255; 4])), (some("2147483648"), some("-1")));
+        assert_eq!((text("UV", &[255; 8]), text("SV", &[255; 8])), (some("18446744073709551615"), some("-1")));
+        assert_eq!(text("FL", &[1.5f32.to_le_bytes(), (-2f32).to_le_bytes()].concat()), some("1.5\\-2"));
+        assert_eq!(
+            (text("FD", &0.1f64.to_le_bytes()), text("AT", &[0x18, 0, 0x63, 0x10])),
+            (some("0.1"), some("(0018,1063)"))
+        );
+        // Neither part of a number nor text.
+        assert_eq!(
+            (text("US", &[1]), text("UL", &[1, 2]), text("LO", b"12"), text("US", &[])),
+            (None, None, None, some(""))
+        );
+    }
+
+    #[test]
+    fn characters() {
+        assert_eq!([' ', '\u{E9}', '\\', '\u{A0}', '\u{3000}'].map(shown).concat(), " \u{E9}\\\u{A0}\u{3000}");
+        assert_eq!(
+            ['\n', '\x1B', '\u{202E}', '\u{2028}', '\u{85}'].map(shown).concat(),
+            "\\x0A\\x1B\\u{202E}\\u{2028}\\u{85}"
+        );
+    }
+
+    #[test]
+    fn character_sets() {
+        for (named, name) in [
+            ("", "windows-1252"),
+            ("ISO_IR 100", "windows-1252"),
+            ("ISO_IR 192", "UTF-8"),
+            ("ISO 2022 IR 100 \\ISO 2022 IR 144", "ISO-8859-5"),
+            ("\\ISO 2022 IR 87", "ISO-2022-JP"),
+            ("\\ISO 2022 IR 149", "EUC-KR"),
+            ("GB18030", "gb18030"),
+            ("ISO_IR 1920", "windows-1252"),
+        ] {
+            assert_eq!(encoding(named).name(), name, "{named}");
+        }
+    }
 }

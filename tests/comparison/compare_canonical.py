@@ -222,13 +222,12 @@ def run(comparison, arguments):
     compare_generated(comparison, rng, comparison.count)
     compare_many_rows(comparison)
     compare_size_limit(comparison)
-    if comparison.library.has("xa_judge") and comparison.library.has("xa_show"):
-        compare_claims(comparison, rng, max(20, comparison.count // 20))
-        comparison.insist([("judged", 0), ("judged", 8), ("judged", 9), ("shown", 0), ("shown", 8), ("shown", 9), ("shown", 10)])
+    compare_claims(comparison, rng, max(20, comparison.count // 20))
+    comparison.insist([("judged", 0), ("judged", 8), ("judged", 9), ("shown", 0), ("shown", 8), ("shown", 9), ("shown", 10)])
     line = compare_outside(comparison, rng, arguments.require_outside)
     comparison.insist([("code", code) for code in (*range(9), 21)] + [("room", 0), ("room", 1), ("same", True)])
     return line
 
 
 if __name__ == "__main__":
-    run_as_program("canonical", ["xa_canonical"], 2500, run)
+    run_as_program("canonical", run)

@@ -213,4 +213,4 @@ def run(comparison, arguments):
 
 
 if __name__ == "__main__":
-    run_as_program("decimals", ["xa_judge", "xa_show"], 300_000, run)
+    run_as_program("decimals", run)

@@ -405,4 +405,4 @@ def run(comparison, arguments):
 
 
 if __name__ == "__main__":
-    run_as_program("files", list(CALLS), 300, run)
+    run_as_program("files", run)

@@ -354,4 +354,4 @@ def run(comparison, arguments):
 
 
 if __name__ == "__main__":
-    run_as_program("judge", ["xa_judge"], 3000, run)
+    run_as_program("judge", run)

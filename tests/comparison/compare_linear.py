@@ -233,4 +233,4 @@ def run(comparison, arguments):
 
 
 if __name__ == "__main__":
-    run_as_program("linear", ["xa_linear", "xa_root_level", "xa_root_entry"], 1000, run)
+    run_as_program("linear", run)

@@ -215,4 +215,4 @@ def run(comparison, arguments):
 
 
 if __name__ == "__main__":
-    run_as_program("pictures", ["xa_compare", "xa_show"], 200, run)
+    run_as_program("pictures", run)

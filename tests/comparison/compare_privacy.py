@@ -192,4 +192,4 @@ def run(comparison, arguments):
 
 
 if __name__ == "__main__":
-    run_as_program("privacy", ["xa_read", "xa_judge", "xa_show", "xa_linear", "xa_sheet", "xa_compare", "xa_write_slip"], 500, run)
+    run_as_program("privacy", run)

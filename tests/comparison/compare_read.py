@@ -274,4 +274,4 @@ def run(comparison, arguments):
 
 
 if __name__ == "__main__":
-    run_as_program("read", ["xa_read", "xa_count", "xa_version"], 10_000, run)
+    run_as_program("read", run)

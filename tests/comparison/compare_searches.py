@@ -286,4 +286,4 @@ def run(comparison, arguments):
 
 
 if __name__ == "__main__":
-    run_as_program("searches", ["xa_judge", "xa_judge_file", "xa_answer.searches"], 300, run)
+    run_as_program("searches", run)

@@ -139,4 +139,4 @@ def run(comparison, arguments):
 
 
 if __name__ == "__main__":
-    run_as_program("sheet", ["xa_sheet", "xa_show"], 400, run)
+    run_as_program("sheet", run)

@@ -426,4 +426,4 @@ def run(comparison, arguments):
 
 
 if __name__ == "__main__":
-    run_as_program("show", ["xa_show"], 2000, run)
+    run_as_program("show", run)

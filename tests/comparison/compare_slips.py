@@ -136,4 +136,4 @@ def run(comparison, arguments):
 
 
 if __name__ == "__main__":
-    run_as_program("slips", ["xa_write_slip", "xa_read_slip"], 5000, run)
+    run_as_program("slips", run)

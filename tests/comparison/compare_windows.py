@@ -179,4 +179,4 @@ def run(comparison, arguments):
 
 
 if __name__ == "__main__":
-    run_as_program("windows", ["xa_judge", "xa_show"], 20_000, run)
+    run_as_program("windows", run)

@@ -9,7 +9,6 @@
 import ctypes
 import mmap
 import os
-import re
 import struct
 import tempfile
 
@@ -21,15 +20,11 @@ GUARD = 64  # bytes before and after a buffer
 ROOT = os.path.dirname(os.path.dirname(os.path.dirname(os.path.abspath(__file__))))
 HEADER = os.path.join(ROOT, "include", "luuxidgaan.h")
 
-with open(HEADER, encoding="utf-8") as header:
-    TELLS_SEARCHES = re.search(r"\buint64_t searches;", header.read()) is not None  # the field that Q-11 adds to xa_answer
-
 
 class AnswerStruct(ctypes.Structure):
     """xa_answer of include/luuxidgaan.h."""
 
-    _fields_ = [(name, ctypes.c_uint32) for name in ("code", "offset", "rows", "rule", "frame", "masked")]
-    _fields_ += [("searches", ctypes.c_uint64)] * TELLS_SEARCHES
+    _fields_ = [*((name, ctypes.c_uint32) for name in ("code", "offset", "rows", "rule", "frame", "masked")), ("searches", ctypes.c_uint64)]
 
 
 class RewrittenStruct(ctypes.Structure):
@@ -86,7 +81,7 @@ SIGNATURES = {
 
 
 def answer_of(struct_value):
-    return Answer(*(getattr(struct_value, name, 0) for name in Answer._fields))
+    return Answer(*(getattr(struct_value, name) for name in Answer._fields))
 
 
 def struct_of(answer):
@@ -182,14 +177,12 @@ class InputMemory:
 
 
 class Library:
-    """The calls that a library has. `functions` is a ctypes library, or a stand-in with the same functions."""
+    """The calls of a library. `functions` is a ctypes library, or a stand-in with the same functions."""
 
     def __init__(self, functions, folder=None):
         self.functions = {}
         for name, (result, parameters) in SIGNATURES.items():
-            function = getattr(functions, name, None)
-            if function is None:
-                continue
+            function = getattr(functions, name)
             if isinstance(functions, ctypes.CDLL):
                 function.restype = result
                 function.argtypes = parameters
@@ -200,10 +193,6 @@ class Library:
     @classmethod
     def load(cls, path, folder=None):
         return cls(ctypes.CDLL(os.path.abspath(path)), folder)
-
-    def has(self, name):
-        """Whether the library has a function, or the field of Q-11."""
-        return name in self.functions or (name == "xa_answer.searches" and TELLS_SEARCHES)
 
     def _place(self, data):
         if self.input is None or self.input.capacity < len(data):
@@ -373,8 +362,7 @@ class Observation:
             buffers.append(("values buffer", self.values, struct.pack(f"<{len(expected.values)}H", *expected.values)))
         if self.sheet:
             buffers.append(("sheet", self.sheet, struct.pack(f"<{len(expected.sheet)}Q", *expected.sheet)))
-        answer = expected.answer if TELLS_SEARCHES else expected.answer._replace(searches=0)
-        return difference_in(buffers, self.answer, answer, self.input)
+        return difference_in(buffers, self.answer, expected.answer, self.input)
 
 
 class CanonicalObservation:

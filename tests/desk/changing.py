@@ -12,16 +12,19 @@ import threading
 import time
 import unittest
 
+from desk.common import FAILED, FINE, LARGE, NOBODY, REFUSED, TOOL, Desk, alone, good_run, read_pgm, with_head
 from generators import enhanced_xa as xa
-from desk.common import FAILED, FINE, LARGE, NOBODY, REFUSED, TOOL, Desk, good_run, read_pgm, with_head
 from generators.objects import encode
 from reference import attributes as tags
-from reference import files
+from reference import files, slips
 
 RUNS = 1000
 STARVED = int(os.environ.get("LUUX_STARVED", 150))  # runs beside busy loops, with all of it on one processor
 BUSY = 6
 PAUSE = 0.1  # seconds between the two readings of a file without a lease
+GAP = 0.01  # seconds; a file that is touched as often is never read
+CHECKS = 10  # pictures, and refusals, of a file without a lease that must have been met
+TRIES = 400  # the most runs in which a busy machine must let us see what we look for
 CHANGED = b"changed while luux was reading it"
 WRITTEN = b"another program has it open for writing"
 
@@ -95,6 +98,8 @@ class TestChanging(Desk):
         ends = self.race(contents, ((self.overwrite, RUNS - 300), (self.cut_and_write, 300)))
         self.assertGreater(min(ends.values()), 20, ends)
 
+    # Alone: its busy loops would slow down whatever else is on that processor.
+    @alone
     def test_no_picture_of_changed_bytes_when_starved(self):
         """The same with the writer, the tool and busy loops on one processor, so that a writer stops anywhere for long; even within a write."""
         contents = two_runs()
@@ -107,15 +112,22 @@ class TestChanging(Desk):
             self.addCleanup(loop.wait)
             self.addCleanup(loop.kill)
         third = STARVED // 3
-        ends = self.race(contents, ((self.overwrite, third), (self.cut_and_write, third), (self.through_a_mapping, third)), own_process=True)
-        self.assertGreater(sum(ends.values()), 0, ends)
+        rounds = ((self.overwrite, third), (self.cut_and_write, third), (self.through_a_mapping, third))
+        ends = self.race(contents, rounds, own_process=True)
+        # About one in 25 meets the writer, so that none does is rare, and ten times in a row does not happen.
+        for _ in range(9):
+            if min(ends.values()) > 0:
+                break
+            ends = self.race(contents, rounds, own_process=True)
+        self.assertGreater(min(ends.values()), 0, ends)
 
     def race(self, contents, rounds, own_process=False):
         """Pictures beside a writer; how many there were, and how often there was none."""
         wanted = self.pictures(contents, 2)
-        self.put("run.dcm", contents[0])
         ends = {FINE: 0, FAILED: 0}
         for how, count in rounds:
+            # The last writer may have been stopped halfway.
+            self.put("run.dcm", contents[0])
             stop = (self.writing_apart if own_process else self.writing)(self.path("run.dcm"), contents, how)
             for _ in range(count):
                 done = self.show()
@@ -181,7 +193,8 @@ class TestChanging(Desk):
                     else:
                         self.assertIn(WRITTEN, done.stdout + done.stderr)
                 self.assertEqual(os.listdir(self.folder), ["run.dcm"])
-                self.assertIn(b"run.dcm: arriving: another program has it open for writing\n", self.luux("judge", "run.dcm", "--settle", "0.05").stdout)
+                done = self.luux("judge", "run.dcm", "--settle", "0.05", status=FAILED)
+                self.assertIn(b"run.dcm: arriving: another program has it open for writing\n", done.stdout)
                 if mapped:
                     map.close()
             self.put("run.dcm", contents[1])
@@ -206,6 +219,8 @@ class TestChanging(Desk):
             met += CHANGED in out or WRITTEN in out
         self.assertGreater(met, 0)
 
+    # Alone: it measures time, and counts only pictures during which no write was held up.
+    @alone
     @unittest.skipUnless(os.getuid() == 0, "users get leases on their own files; only root can act as another user")
     def test_no_lease(self):
         """Without a lease on another user's file, luux waits until it has been left alone, and refuses it if it reads differently the second time."""
@@ -225,7 +240,7 @@ class TestChanging(Desk):
             map[:] = contents[1]
             time.sleep(2.2)
             stop = threading.Event()
-            begun, slowest = time.monotonic(), 0
+            begun, slowest, rest = time.monotonic(), 0, 0
 
             def flip():
                 nonlocal begun, slowest
@@ -235,20 +250,31 @@ class TestChanging(Desk):
                     begun = time.monotonic()
                     map[:] = contents[number % 2]
                     slowest = max(slowest, time.monotonic() - begun)
+                    time.sleep(rest)
             thread = threading.Thread(target=flip)
             thread.start()
+            ends = {FINE: 0, FAILED: 0}
             try:
-                for _ in range(30):
+                # Without a rest, writes nearly always meet a reading. With rests so long that an even number of writes falls between the readings,
+                # both often find the same run.
+                for rest in (0, PAUSE / 4) * (TRIES // 2):
                     slowest = 0
                     done = self.show(**other)
-                    self.assertIn(done.returncode, (FINE, FAILED), done)
+                    self.assertIn(done.returncode, ends, done)
                     # A write that a busy machine stops for longer than the pause between the two readings goes unnoticed.
-                    noticed = max(slowest, time.monotonic() - begun) < PAUSE
-                    if done.returncode == FINE and noticed:
+                    if max(slowest, time.monotonic() - begun) >= PAUSE:
+                        continue
+                    ends[done.returncode] += 1
+                    if done.returncode == FINE:
                         self.assertTrue(read_pgm(self.path("x.pgm"))[2] in wanted, "a picture of mixed bytes")
+                    else:
+                        self.assertIn(CHANGED, done.stderr)
+                    if min(ends.values()) >= CHECKS:
+                        break
             finally:
                 stop.set()
                 thread.join()
+            self.assertGreaterEqual(min(ends.values()), CHECKS, ends)
 
     def test_the_race_is_one(self):
         """What these tests look for does happen where the tool lends a mapping: a picture of no run, or a crash."""
@@ -294,13 +320,21 @@ class TestChanging(Desk):
         self.put("run.dcm", with_head(encode(model)))
         for words in (("judge", "run.dcm"), ("contact", "run.dcm", "-o", "x.pgm"), ("sheet", "run.dcm"), ("show", "run.dcm", "1", "-o", "x.pgm"),
                       ("canonical", "run.dcm", "-o", "x")):
-            process = subprocess.Popen([TOOL, *words], cwd=self.folder, stdout=subprocess.PIPE, stderr=subprocess.PIPE)
-            times = 0
-            while process.poll() is None:
-                times += 1
-                os.utime(self.path("run.dcm"), (times, times))
-            out, told = process.communicate()
-            self.assertEqual(process.returncode, FAILED, words)
+            for _ in range(TRIES):
+                process = subprocess.Popen([TOOL, *words], cwd=self.folder, stdout=subprocess.PIPE, stderr=subprocess.PIPE)
+                times = gap = 0
+                last = time.monotonic()
+                while process.poll() is None:
+                    times += 1
+                    os.utime(self.path("run.dcm"), (times, times))
+                    gap, last = max(gap, time.monotonic() - last), time.monotonic()
+                out, told = process.communicate()
+                if process.returncode != FINE or gap < GAP:
+                    break
+                # The machine was too busy to let us touch the run in time.
+                for name in {"x", "x.pgm"} & set(os.listdir(self.folder)):
+                    os.remove(self.path(name))
+            self.assertEqual(process.returncode, FAILED, (words, gap))
             self.assertIn(CHANGED, out + told, words)
         self.assertEqual(os.listdir(self.folder), ["run.dcm"])
 
@@ -338,7 +372,7 @@ class TestArriving(Desk):
         self.put("in/old.dcm", with_head(good_run()))
         self.put("in/young.dcm", with_head(good_run())[:-2])
         self.put("in/future.dcm", with_head(good_run())[:-2])
-        self.put("slips/in/young.dcm.slip", b"any")
+        self.put("slips/in/young.dcm.slip", slips.slip_bytes(0, 0, 0, 0, 57))
         os.utime(self.path("in", "old.dcm"), (time.time() - 500,) * 2)
         os.utime(self.path("in", "young.dcm"), (time.time() - 100,) * 2)
         os.utime(self.path("in", "future.dcm"), (time.time() + 500,) * 2)
@@ -354,8 +388,23 @@ class TestArriving(Desk):
         for wrong in ("-1", "soon", "nan", "inf"):
             self.assertIn(b"seconds", self.luux("judge", "in", f"--settle={wrong}", status=FAILED).stderr)
 
+    def test_nothing_has_arrived(self):
+        """Nobody looked at a run, so the status is not that of a good night: all are arriving, or the others are not ours."""
+        for more in ((), ("notes.txt",)):
+            for name in ("a.dcm", "b.dcm", *more):
+                self.put(f"in/{name}", with_head(good_run()) if name.endswith(".dcm") else b"notes")
+            if more:
+                os.utime(self.path("in", "notes.txt"), (1, 1))
+            for command, nothing in (("judge", b"nothing was judged: "), ("duplicates", b"nothing was compared: ")):
+                done = self.luux(command, "in", "--settle", "300", status=FAILED)
+                self.assertIn(b"2 arriving", done.stdout)
+                self.assertIn(nothing + b"no runs were found, or all are still arriving\n", done.stderr)
+        os.utime(self.path("in", "a.dcm"), (1, 1))
+        for command in ("judge", "duplicates"):
+            self.assertIn(b"1 not ours, 1 arriving", self.luux(command, "in", "--settle", "300").stdout)
+
     def test_other_commands(self):
-        """Every command that searches folders leaves out files that are arriving, and gives up on those that take too long."""
+        """Every command that searches folders leaves out files that are arriving, and says the same with --timeout."""
         for name, content in (("a", good_run()), ("b", good_run()), ("c", good_run()[:-2]), ("young", good_run())):
             self.put(f"in/{name}.dcm", with_head(content))
             os.utime(self.path("in", f"{name}.dcm"), (time.time() - (0 if name == "young" else 500),) * 2)
@@ -378,9 +427,3 @@ class TestArriving(Desk):
                     tables.append(file.read().count(b"data:image/png"))
             self.assertEqual(said[0], said[1])
             self.assertEqual(tables[:2], tables[2:])
-        done = self.luux("duplicates", "in", "--timeout", "0", status=FAILED)
-        self.assertEqual(done.stderr.count(b"took longer than the --timeout of 0 s"), 4)
-        self.assertIn(b"4 could not be read", self.luux("report", "in", "--timeout", "0").stdout)
-
-
-__all__ = [name for name, one in list(globals().items()) if isinstance(one, type) and issubclass(one, unittest.TestCase) and one is not Desk]

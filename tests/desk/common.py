@@ -25,6 +25,7 @@ NOBODY = 65534
 LARGE = 10_000_000  # numbers in the reference's row buffer, more than any object here needs
 OWN_MEMORY = 32 << 20  # what the tool may take besides the mapped file
 FINE, REFUSED, FAILED = 0, 1, 2
+IS_INPUT = "cannot be written: it is the input itself; name another file"
 
 # What each rule asks, by its number, from the source of the program judge_one.
 with open(os.path.join(ROOT, "crates", "judge_one", "src", "sentence.rt"), encoding="ascii") as source:
@@ -158,6 +159,13 @@ def read_pgm(path, size=1):
 
 
 # ---------------------------------------------------------------------------------------------------------------------
+# Tests
+
+
+def alone(test):
+    """Marks a test, or a class of tests, that runs while no other does."""
+    test.alone = True
+    return test
 
 
 class Desk(unittest.TestCase):
@@ -183,7 +191,7 @@ class Desk(unittest.TestCase):
         """Runs a command, checks its exit status, and returns its output as bytes."""
         if self.bare and words and words[0] in ("judge", "rows", "show", "contact", "canonical", "duplicates", "linear", "sheet", "compare", "movie", "report"):
             words = (words[0], "--bare", *words[1:])
-        done = subprocess.run([tool, *words], cwd=self.folder, capture_output=True, timeout=100, **options)
+        done = subprocess.run([tool, *words], **{"cwd": self.folder, "capture_output": True, "timeout": 100, **options})
         self.assertEqual(done.returncode, status, done.stdout[-2000:] + done.stderr[-2000:])
         self.assertNotIn(b"panicked", done.stderr)
         return done
@@ -192,6 +200,25 @@ class Desk(unittest.TestCase):
         """The lines of a command, without what a refusal found unless `found`; that has tests of its own."""
         lines = self.luux(*words, **options).stdout.decode().splitlines()
         return lines if found else [re.sub(r" Found: .*?\.($| Moved to | Not moved | Its )", r"\1", line) for line in lines]
+
+    def check_kept(self, name, *words):
+        """A command whose output is its input `name`, under whatever name, says so before it reads, so that a damaged input makes no
+        difference. The input stays as it is."""
+        with open(self.path(name), "rb") as file:
+            whole = file.read()
+        hard, soft = (kind + os.path.splitext(name)[1] for kind in ("hard", "soft"))
+        os.link(self.path(name), self.path(hard))
+        os.symlink(name, self.path(soft))
+        for content in (whole, whole[:-2]):
+            self.put(name, content)
+            for output in (name, f"./{name}", hard, soft):
+                done = self.luux(*words, "-o", output, status=FAILED)
+                self.assertEqual((done.stdout, done.stderr.decode()), (b"", f"luux: {output}: {IS_INPUT}\n"))
+                with open(self.path(name), "rb") as file:
+                    self.assertEqual(file.read(), content)
+        self.put(name, whole)
+        os.remove(self.path(hard))
+        os.remove(self.path(soft))
 
     def check_json(self, one, answer):
         """An object of --json has these fields of an answer; any others that it shares with the answer are equal too."""

@@ -4,9 +4,9 @@ import os
 import shutil
 import subprocess
 import tempfile
-import unittest
 
 from desk.common import FAILED, FINE, REFUSED, Desk, good_run, with_head
+from reference import slips
 
 HERE = os.path.dirname(os.path.abspath(__file__))
 
@@ -33,7 +33,7 @@ class TestDisks(Desk):
         run = with_head(good_run(frames=3, rows=64, columns=64))
         for name in ("runs/a.dcm", "runs/bad-sector.dcm", "runs/c.dcm"):
             self.put(name, run)
-        self.put("slips/runs/bad-sector.dcm.slip", b"of yesterday")
+        self.put("slips/runs/bad-sector.dcm.slip", slips.slip_bytes(0, 0, 0, 0, 57))
         for more in ((), ("--timeout", "20")):
             said = self.with_bad_disk("judge", "runs", "--slips", "slips", *more, status=FAILED).stdout.decode().splitlines()
             self.assertEqual((said[0], said[2]), ("runs/a.dcm: accepted", "runs/c.dcm: accepted"))
@@ -87,13 +87,18 @@ class TestDisks(Desk):
         self.assertEqual(said, ["runs/a.dcm: accepted", "runs/c.dcm: accepted",
                                 "runs/slow-disk.dcm: took longer than the --timeout of 1 s; there is no verdict",
                                 "3 files: 2 accepted, 0 refused, 1 could not be read"])
+        done = self.with_bad_disk("duplicates", "runs", "--timeout", "1", status=FAILED)
+        self.assertTrue(done.stdout.endswith(b"3 files: 2 equal in 1 group, 0 refused, 1 could not be read\n"), done.stdout)
+        self.assertEqual(done.stderr, b"luux: runs/slow-disk.dcm: took longer than the --timeout of 1 s; there is no verdict\n")
+        done = self.with_bad_disk("report", "runs", "--timeout", "1", status=FINE)
+        self.assertIn(b"2 accepted, 0 refused, 1 could not be read", done.stdout)
 
     def test_a_full_disk(self):
         """Slips, pictures and canonical forms that cannot be written leave nothing behind, and older files stay."""
         for name in ("runs/a.dcm", "runs/b.dcm"):
             self.put(name, with_head(good_run()))
         for place, trouble in (("full-disk", "No space left on device"), ("lost-disk", "Input/output error")):
-            self.put(f"{place}/runs/a.dcm.slip", b"of yesterday")
+            self.put(f"{place}/runs/a.dcm.slip", slips.slip_bytes(0, 0, 0, 0, 57))
             said = self.with_bad_disk("judge", "runs", "--slips", place, "--move-accepted", "done", status=FAILED).stdout.decode().splitlines()
             for name, line in zip("ab", said):
                 start = f"runs/{name}.dcm: accepted; its slip {place}/runs/{name}.dcm.slip cannot be written: {trouble}"
@@ -138,6 +143,3 @@ class TestTime(Desk):
         for wrong in ("-1", "never"):
             self.luux("judge", "runs", f"--timeout={wrong}", status=FAILED)
         self.assertNotIn(b"look", self.luux("--help").stdout.split(b"Commands:")[1].split(b"Options:")[0].replace(b"looked", b""))
-
-
-__all__ = [name for name, one in list(globals().items()) if isinstance(one, type) and issubclass(one, unittest.TestCase) and one is not Desk]

@@ -1,11 +1,11 @@
-"""Real folders: files that are not ours, hostile names, slips and files that are moved."""
+"""Real folders: files that are not ours, files that are chosen or moved, names of all sorts."""
 
 import json
 import os
 import random
 import struct
 import subprocess
-import unittest
+import time
 
 from desk.common import CLASSES, FAILED, LARGE, REFUSED, TOOL, Desk, good_run, item_left_out, with_head
 from generators.objects import element, item, sequence
@@ -31,6 +31,8 @@ OTHERS = {
     "picture.jpg": (b"\xff\xd8\xff\xe0" + bytes(300), "a picture (JPEG)"),
     "picture.bmp": (b"BM" + struct.pack("<I", 300) + bytes(294), "a picture (BMP)"),
     "report.pdf": (b"%PDF-1.7\n" + bytes(300), "a PDF document"),
+    "letter.doc": (b"\xd0\xcf\x11\xe0\xa1\xb1\x1a\xe1" + bytes(300), "an Office document or Thumbs.db"),
+    "letter.docx": (b"PK\3\4" + bytes(26) + b"[Content_Types].xml" + bytes(300), "an Office document"),
     "ct.dcm": (with_head(of_class(CT), CT), "another SOP class, CT Image (1.2.840.10008.5.1.4.1.1.2)"),
     "ct-jpeg.dcm": (with_head(of_class(CT), CT, JPEG), "another SOP class, CT Image (1.2.840.10008.5.1.4.1.1.2)"),
     "ct-cut.dcm": (with_head(of_class(CT)[:-1], CT), "another SOP class, CT Image (1.2.840.10008.5.1.4.1.1.2)"),
@@ -46,6 +48,7 @@ DOUBTFUL = {
     "compressed": (with_head(good_run(), syntax=JPEG), 17),
     "cut-and-damaged": (with_head(good_run()[:-2], CLASSES["XA"][:-3] + b"3.1"), 1),
     "no-class": (with_head(b""), 18),
+    "archive.zip": (b"PK\3\4" + bytes(26) + b"runs/run.dcm" + bytes(300), 15),
 }
 
 
@@ -99,7 +102,33 @@ class TestOthers(Desk):
         done = self.luux("duplicates", "night")
         self.assertTrue(done.stdout.endswith(b"3 files: 2 equal in 1 group, 0 refused, 0 could not be read, 1 not ours\n"))
         self.assertIn(b"night/notes.txt: not ours: text", done.stderr)
-        self.luux("duplicates", "night/notes.txt", "night", status=REFUSED)
+        done = self.luux("duplicates", "night/notes.txt", "night", status=REFUSED)
+        # A file that is found twice counts once.
+        self.assertTrue(done.stdout.endswith(b"3 files: 2 equal in 1 group, 0 refused, 0 could not be read, 1 not ours, 1 skipped\n"))
+        self.assertIn(b"night/notes.txt: skipped: the same file was found already", done.stderr)
+        self.put("texts/notes.txt", b"notes")
+        self.assertIn(b"nothing was compared: no runs were found", self.luux("duplicates", "texts", status=FAILED).stderr)
+
+    def test_an_earlier_file_is_gone(self):
+        """It is the one that could not be read; those that are equal to it are still found equal to each other."""
+        for more in ((), ("--timeout", "60")):
+            for name in ("0-gone", "2-b", "3-c"):
+                self.put(f"night/{name}", with_head(good_run()))
+            # Each of these holds luux up for a while, since somebody has it open for writing; all together for three seconds.
+            for number in range(20):
+                self.put(f"night/1-slow-{number:02d}", with_head(good_run()))
+            slow = [open(self.path("night", f"1-slow-{number:02d}"), "ab") for number in range(20)]
+            process = subprocess.Popen([TOOL, "duplicates", "night", *more], cwd=self.folder, stdout=subprocess.PIPE, stderr=subprocess.PIPE)
+            time.sleep(1)
+            os.remove(self.path("night", "0-gone"))
+            out, told = process.communicate(timeout=60)
+            for file in slow:
+                file.close()
+            self.assertEqual(process.returncode, FAILED)
+            self.assertEqual(out.decode().splitlines()[1:], [
+                "  night/2-b", "  night/3-c", "23 files: 2 equal in 1 group, 0 refused, 21 could not be read"])
+            self.assertEqual(told.count(b"night/0-gone: cannot be read: no such file"), 1)
+            self.assertNotIn(b"night/2-b: ", told)
 
     def test_code_18_from_every_command(self):
         """A good data set with a head of another class is refused by every command."""
@@ -143,7 +172,12 @@ class TestChoosing(Desk):
         self.assertEqual(said[-1], "4 files: 4 accepted, 0 refused, 0 could not be read, 2 left out by --include or --exclude")
         self.assertIn(b"nothing was judged", self.luux("judge", "runs", "--include", "none", status=FAILED).stderr)
         self.luux("judge", "runs", "--include", "[", status=FAILED)
-        self.assertEqual(self.lines("duplicates", "runs", "--include", "[ac].dcm")[1:3], ["  runs/a.dcm", "  runs/sub/c.dcm"])
+        self.assertEqual(self.lines("duplicates", "runs", "--include", "[ac].dcm")[1:], [
+            "  runs/a.dcm", "  runs/sub/c.dcm", "2 files: 2 equal in 1 group, 0 refused, 0 could not be read, 4 left out by --include or --exclude"])
+        os.symlink("sub", self.path("runs", "again"))
+        self.assertTrue(self.lines("duplicates", "runs")[-1].endswith(" 0 could not be read, 1 skipped"))
+        self.assertEqual(self.lines("report", "runs", "--include", "[ac].dcm"), [
+            "report.html: 2 files of 1 sender: 2 accepted, 0 refused, 0 could not be read, 1 skipped, 4 left out by --include or --exclude"])
 
     def test_names_that_are_no_text(self):
         self.put(b"more/\xff.dcm", good_run())
@@ -198,77 +232,27 @@ class TestMoving(Desk):
         self.assertTrue(os.path.exists(self.path("runs", "good.dcm")))
 
 
-class TestKeepingSlips(Desk):
-    bare = False
+class TestNames(Desk):
+    def test_bytes_that_are_no_text(self):
+        self.put(b"\xff\xfe.xa", good_run())
+        self.assertEqual(self.luux("judge", ".").stdout.splitlines()[0], b"./\\xFF\\xFE.xa: accepted")
+        done = self.luux("judge", ".", "--json", "--slips", "slips")
+        found = json.loads(done.stdout.decode("utf-8"))
+        self.assertEqual(bytes.fromhex(found["path_hex"]), b"./\xff\xfe.xa")
+        self.assertEqual(bytes.fromhex(found["slip_hex"]), b"slips/\xff\xfe.xa.slip")
+        self.luux("show", b"\xff\xfe.xa", "1", "-o", b"\xfd.png")
+        self.assertTrue(os.path.exists(os.fsencode(self.folder) + b"/\xfd.png"))
 
-    def slip(self, *parts):
-        with open(self.path(*parts), "rb") as file:
-            return file.read()
+    def test_a_line_stays_a_line(self):
+        name = 'a\n"b"\\\té\x1b.xa'
+        self.put(name, good_run())
+        said = self.luux("judge", name).stdout.decode().split("\n")
+        self.assertEqual(said[0], 'a\\x0A"b"\\\\\\x09é\\x1B.xa: accepted')
+        self.assertEqual(json.loads(self.lines("judge", name, "--json")[0])["path"], name)
 
-    def test_old_slips_are_moved_aside(self):
-        """Each time that a run cannot be judged its slip goes to another name; none is lost."""
-        self.put("run.dcm", with_head(good_run()))
-        for number, ending in enumerate((".old", ".old-2", ".old-3")):
-            self.luux("judge", "run.dcm", "--slips", "s")
-            good = self.slip("s", "run.dcm.slip")
-            content = (b"", with_head(good_run(), syntax=b"1.2.840.10008.1.2"), None)[number]
-            if content is None:
-                os.remove(self.path("run.dcm"))
-            else:
-                self.put("run.dcm", content)
-            said = self.luux("judge", "run.dcm", "--slips", "s", status=FAILED if content in (None, b"") else REFUSED).stdout.decode().splitlines()[0]
-            self.assertTrue(said.endswith(f"; its old slip was moved aside to s/run.dcm.slip{ending}"), said)
-            self.assertEqual(self.slip("s", f"run.dcm.slip{ending}"), good)
-            self.assertFalse(os.path.exists(self.path("s", "run.dcm.slip")))
-            self.put("run.dcm", with_head(good_run()))
-        self.assertEqual(sorted(os.listdir(self.path("s"))), ["run.dcm.slip.old", "run.dcm.slip.old-2", "run.dcm.slip.old-3"])
-        # They are slips still, and no runs.
-        self.luux("slip", "read", "s/run.dcm.slip.old-2")
-        self.assertIn(b"s/run.dcm.slip.old: skipped: a verdict slip", self.luux("judge", ".").stderr)
-
-    def test_all_slips_though_nobody_listens(self):
-        for number in range(300):
-            self.put(f"in/{number:03d}.dcm", with_head(good_run() if number % 2 else item_left_out()))
-        for words, out in ((("--slips", "s"), "pipe"), (("--slips", "t", "--json"), "pipe"), (("--slips", "u"), "full")):
-            if out == "pipe":
-                reading_end, writing_end = os.pipe()
-                os.close(reading_end)
-            else:
-                writing_end = os.open("/dev/full", os.O_WRONLY)
-            done = subprocess.run([TOOL, "judge", "in", *words], cwd=self.folder, stdout=writing_end, stderr=subprocess.PIPE, timeout=60)
-            os.close(writing_end)
-            self.assertEqual((done.returncode, done.stderr == b""), (FAILED, out == "pipe"))
-            self.assertEqual(len(os.listdir(self.path(words[1], "in"))), 300)
-
-    def test_no_draft_stays_and_none_is_judged(self):
-        self.put("in/run.dcm", with_head(good_run()))
-        self.put("in/.luux-abc.tmp", b"half")
-        done = self.luux("judge", "in", "--slips", "in")
-        self.assertIn(b"in/.luux-abc.tmp: skipped: a draft that luux left behind", done.stderr)
-        self.assertEqual(sorted(os.listdir(self.path("in"))), [".luux-abc.tmp", "in", "run.dcm"])
-
-    def test_permissions_are_those_that_the_user_gives(self):
-        self.put("run.dcm", with_head(good_run()))
-        for mask in (0o022, 0o077, 0o002):
-            self.luux("judge", "run.dcm", "--slips", "s", preexec_fn=lambda: os.umask(mask))
-            self.luux("show", "run.dcm", "1", "-o", "x.png", preexec_fn=lambda: os.umask(mask))
-            for path in ("s/run.dcm.slip", "x.png"):
-                self.assertEqual(os.stat(self.path(path)).st_mode & 0o777, 0o666 & ~mask)
-
-    def test_synced_before_renamed(self):
-        """In the order of the calls: written, synced, renamed."""
-        self.put("run.dcm", with_head(good_run()))
-        traced = subprocess.run(["strace", "-f", "-e", "trace=fsync,rename,renameat,renameat2,write", "-o", self.path("calls"), TOOL, "judge",
-                                 "run.dcm", "--slips", "s"], cwd=self.folder, capture_output=True) if self.has_strace() else None
-        if traced is None or traced.returncode:
-            self.skipTest("strace cannot be used here")
-        with open(self.path("calls"), encoding="utf-8") as file:
-            calls = file.read()
-        self.assertRegex(calls, r"(?s)write\(.*XAV.*fsync\(.*rename.*\.luux-[^\"]+\.tmp.*run\.dcm\.slip")
-
-    @staticmethod
-    def has_strace():
-        return any(os.access(os.path.join(folder, "strace"), os.X_OK) for folder in os.environ["PATH"].split(os.pathsep))
+    def test_dashes_and_spaces(self):
+        self.put("-o x.xa", good_run())
+        self.assertEqual(self.lines("judge", "--", "-o x.xa")[0], "-o x.xa: accepted")
 
 
 HOSTILE = {
@@ -341,6 +325,3 @@ def back(shown):
             made += chr(int(shown[at + 3:end], 16)).encode()
             at = end + 1
     return made
-
-
-__all__ = [name for name, one in list(globals().items()) if isinstance(one, type) and issubclass(one, unittest.TestCase) and one is not Desk]

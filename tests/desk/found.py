@@ -5,15 +5,15 @@ import random
 import re
 import struct
 
+from desk.common import LARGE, REFUSED, SENTENCES, Desk, good_run, item_left_out, rows_of, with_head
 from generators import enhanced_xa as xa
 from generators.mutations import CHANGES
 from generators.objects import element, element_header, encode, item_header
 from reference import attributes as tags
 from reference import rules
 
-from .common import LARGE, REFUSED, SENTENCES, Desk, good_run, item_left_out, rows_of, with_head
-
 TEXTS = ("AE", "AS", "CS", "DA", "DS", "DT", "IS", "LO", "LT", "PN", "SH", "ST", "TM", "UC", "UI", "UR", "UT")
+WHERE = (27, 36)  # the rules whose findings say where a group is, and not how many items it has
 NUMBERS = {"US": "H", "SS": "h", "UL": "I", "SL": "i", "FL": "f", "FD": "d"}
 
 
@@ -134,28 +134,42 @@ class TestFound(Desk):
             else:
                 row = rows[finding["row"] - 1]
                 self.assertEqual(tag_text(row[0]), finding["tag"])
-                self.assertTrue(any(text in finding["text"] for text in self.values(data, rows, finding["row"])),
-                                (rule, finding, self.values(data, rows, finding["row"])))
+                self.assertTrue(self.shows(data, rows, finding, rule), (rule, finding))
 
-    def values(self, data, rows, number):
-        """How an element may be printed: its value, or its size."""
-        tag, vr, _, offset, length, _, _ = rows[number - 1]
+    def shows(self, data, rows, finding, rule):
+        """Whether a finding gives the value of its element, or its size; for rules that ask only where a group is, its place."""
+        number, text = finding["row"], finding["text"]
+        _, vr, _, offset, length, _, _ = rows[number - 1]
         vr = chr(vr >> 8) + chr(vr & 255)
         value = data[offset:offset + length]
-        items = sum(row[6] == number for row in rows)
-        told = [f"{length} bytes in ", f"{length} byte in "]
+
+        def says(*wanted):
+            """A number does not count as the end of a longer one."""
+            return any(re.search(r"(?<!\d)" + re.escape(one), text) for one in wanted)
+        if says(f"{length} byte{'' if length == 1 else 's'} in "):
+            return True
         if vr == "SQ":
-            return told + [f"{items} item{'' if items == 1 else 's'}", " in frame", " in the shared item"]
+            items = sum(row[6] == number for row in rows)
+            return says(" in frame ", " in the shared item") if rule in WHERE else says(f"{items} item{'' if items == 1 else 's'} in ", f" SQ {items} item")
         if length == 0:
-            return told + [f" {vr} empty"]
+            return says(f" {vr} empty")
         if vr in TEXTS:
-            text = "".join(letter if letter.isprintable() else f"\\x{ord(letter):02X}" for letter in value.rstrip(b"\0 ").decode("cp1252", "replace"))
-            return told + [f' {vr} "{text[:400]}', f"{text.strip().lstrip('+0')} frame"]
+            plain = "".join(letter if letter.isprintable() else f"\\x{ord(letter):02X}" for letter in value.rstrip(b"\0 ").decode("cp1252", "replace"))
+            return says(f' {vr} "{plain[:400]}', f"{plain.strip().lstrip('+0')} frame")
         if vr in NUMBERS and length % struct.calcsize(NUMBERS[vr]) == 0:
             numbers = [number for number, in struct.iter_unpack("<" + NUMBERS[vr], value)]
-            start = f" {vr} "
-            return told + [start + "\\".join(map(str, numbers))[:400]] if vr not in ("FL", "FD") else told + [start]
-        return told + [f" {vr} {length} byte"]
+            if vr in ("FL", "FD"):
+                return self.same_numbers(re.search(f" {vr} ([^ ]*)", text)[1], numbers, NUMBERS[vr])
+            return says(f" {vr} " + "\\".join(map(str, numbers))[:400])
+        return says(f" {vr} {length} byte")
+
+    def same_numbers(self, text, numbers, form):
+        """Whether a text gives these floating-point numbers; of a text that was cut at 400 characters, the last number is not complete."""
+        given = text.removesuffix("...").split("\\")
+        if text.endswith("..."):
+            given, numbers = given[:-1], numbers[:len(given) - 1]
+        return len(given) == len(numbers) > 0 and all(
+            number != number and one == "NaN" or struct.pack(form, float(one)) == struct.pack(form, number) for one, number in zip(given, numbers))
 
     def test_where_reading_stopped(self):
         first = element(0x00080060, "CS", b"XA")

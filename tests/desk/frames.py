@@ -1,16 +1,16 @@
-"""`luux show` of several frames, to folders and standard output; `luux movie`; and --both."""
+"""`luux show` of several frames, to folders and standard output; `luux movie`; --both; and what commands about one run print and write."""
 
+import json
 import os
 import random
 import struct
 import zlib
 
+from desk.common import FAILED, IS_INPUT, LARGE, REFUSED, Desk, content_left_out, good_run, read_pgm, read_png, unfilter
 from generators import enhanced_xa as xa
 from generators.objects import encode
 from reference import attributes as tags
-from reference import drawing
-
-from .common import FAILED, LARGE, REFUSED, Desk, content_left_out, good_run, read_pgm, read_png, unfilter
+from reference import drawing, sheet
 
 
 def split_pngs(content):
@@ -104,12 +104,13 @@ class TestFrames(Desk):
         self.assertEqual(done.stdout, b"".join(b"P5\n9 6\n255\n" + self.drawn(frame)[0] for frame in (2, 3)))
 
     def test_refused(self):
-        """Nothing is written if a frame is not in the run; with `-` only pictures go to standard output."""
-        for frames, out in (("0-3", "out"), ("5-13", "out"), ("13", "x.png")):
-            self.assertEqual(self.lines("show", "run.xa", frames, "-o", out, status=REFUSED),
-                             ["run.xa: code 10: no such frame; the run has frames 1 to 12"])
-            self.assertIn(b"code 10", self.luux("show", "run.xa", frames, "-o", "-", status=REFUSED).stderr)
-        for words in (("4-2",), ("1-",), ("some",), ("1-2", "-o", "x.png"), ("1", "-o", "x.jpg"), ("1", "--as", "jpg")):
+        """Nothing is written if a frame is not in the run, no folder and no picture; with `-` the refusal goes to standard error."""
+        for frames, out in (("0-3", "out"), ("5-13", "out"), ("13", "x.png"), ("13", "new/"), ("0", "-"), ("13", "-"), ("0-3", "-"), ("10-13", "-")):
+            done = self.luux("show", "run.xa", frames, "-o", out, status=REFUSED)
+            said = "run.xa: code 10: no such frame; the run has frames 1 to 12\n"
+            self.assertEqual((done.stdout.decode(), done.stderr.decode()), ("", f"luux: {said}") if out == "-" else (said, ""))
+        for words in (("4-2",), ("1-",), ("some",), ("1-2", "-o", "x.png"), ("1", "-o", "x.jpg"), ("1", "--as", "jpg"),
+                      ("1", "--as", "pgm", "-o", "x.png"), ("1", "--as", "png", "-o", "x.png")):
             self.assertIn(b"error:", self.luux("show", "run.xa", *words, status=FAILED).stderr)
         self.put("bad.xa", content_left_out(5))
         done = self.luux("show", "bad.xa", "all", "-o", "-", status=REFUSED)
@@ -167,7 +168,95 @@ class TestFrames(Desk):
     def test_no_movie(self):
         self.assertIn(b"must end in .png", self.luux("movie", "run.xa", "-o", "x.gif", status=FAILED).stderr)
         self.assertIn("code 10", self.lines("movie", "run.xa", "10-13", "-o", "x.png", status=REFUSED)[0])
-        self.put("run.png", good_run())
-        self.assertIn(b"it is the input itself", self.luux("movie", "run.png", "-o", "run.png", status=FAILED).stderr)
         self.luux("movie", "gone.xa", "-o", "x.png", status=FAILED)
         self.assertFalse(os.path.exists(self.path("x.png")))
+
+    def test_the_run_is_not_overwritten(self):
+        """By no movie, and by no picture in a folder; then none is written."""
+        self.put("run.png", good_run())
+        self.check_kept("run.png", "movie", "run.png")
+        os.mkdir(self.path("out"))
+        os.symlink("../run.xa", self.path("out", "run.xa.frame-03.png"))
+        done = self.luux("show", "run.xa", "1-5", "-o", "out", status=FAILED)
+        self.assertEqual((done.stdout, done.stderr.decode()), (b"", f"luux: out/run.xa.frame-03.png: {IS_INPUT}\n"))
+        self.assertEqual(os.listdir(self.path("out")), ["run.xa.frame-03.png"])
+        with open(self.path("run.xa"), "rb") as file:
+            self.assertEqual(file.read(), self.data)
+
+
+class TestOneRun(Desk):
+    """What goes to standard output and what to standard error, and what is never written over."""
+
+    def setUp(self):
+        super().setUp()
+        self.data = good_run(frames=3, rows=4, columns=7)
+        self.put("run.xa", self.data)
+
+    def test_sheet_of_all_frames(self):
+        self.assertEqual(self.lines("sheet", "run.xa", "all"), self.lines("sheet", "run.xa"))
+        self.assertIn(b"the first frame comes after the last", self.luux("sheet", "run.xa", "3-2", status=FAILED).stderr)
+
+    def test_sheet_for_another_program(self):
+        """With --json and --numbers nothing else goes to standard output, though a plot is written."""
+        numbers = sheet.sheet(self.data, 1, 3, LARGE).sheet
+        for words in ((), ("-o", "x.png")):
+            done = self.luux("sheet", "run.xa", "--numbers", *words)
+            self.assertEqual(done.stdout.decode(), "".join(f"{number}\n" for number in numbers))
+            said = self.luux("sheet", "run.xa", "--json", *words)
+            self.assertEqual(json.loads(said.stdout), {
+                "path": "run.xa", "first": 1, "last": 3, "native": numbers[256], "lowest": numbers[257], "highest": numbers[258],
+                "sum": numbers[259], "counts": list(numbers[:256])})
+            self.assertEqual({done.stderr, said.stderr}, {b"luux: x.png: 792 x 360, plot\n" if words else b""})
+        self.assertEqual(self.lines("sheet", "run.xa", "-o", "x.png")[-1], "x.png: 792 x 360, plot")
+
+    def test_a_frame_without_a_picture(self):
+        for words in (("1",), ("11",)):
+            self.assertIn(b"needs a PICTURE to compare with", self.luux("compare", "run.xa", *words, status=FAILED).stderr)
+        self.put("1/readme", b"no picture")
+        self.assertIn(b"no file in it has a frame number in its name", self.luux("compare", "run.xa", "1", status=FAILED).stderr)
+        self.assertIn(b"no such file or folder", self.luux("compare", "run.xa", "missing", status=FAILED).stderr)
+
+    def test_no_input_is_written_over(self):
+        self.luux("show", "run.xa", "2", "-o", "theirs.png")
+        with open(self.path("theirs.png"), "rb") as file:
+            theirs = file.read()
+        os.symlink("theirs.png", self.path("link.png"))
+        for name in ("theirs.png", "link.png"):
+            done = self.luux("compare", "run.xa", "2", "theirs.png", "-o", name, status=FAILED)
+            self.assertIn(b"cannot be written: it is the input itself", done.stderr)
+        with open(self.path("theirs.png"), "rb") as file:
+            self.assertEqual(file.read(), theirs)
+
+    def test_neither_a_device_nor_a_pipe_is_replaced(self):
+        os.mkfifo(self.path("pipe.png"))
+        os.mkfifo(self.path("pipe"))
+        for words in (("show", "run.xa", "1", "-o", "pipe.png"), ("canonical", "run.xa", "-o", "pipe"), ("report", "run.xa", "-o", "pipe")):
+            self.assertIn(b"cannot be written: it exists, and is ", self.luux(*words, status=FAILED).stderr)
+
+    def test_only_show_writes_to_standard_output(self):
+        for words in (("canonical", "run.xa"), ("report", "run.xa")):
+            done = self.luux(*words, "-o", "-", status=FAILED)
+            self.assertEqual(done.stdout, b"")
+            self.assertIn(b"only show writes to standard output", done.stderr)
+        self.assertEqual(os.listdir(self.folder), ["run.xa"])
+
+    def test_usage_steers_no_terminal(self):
+        """Neither names nor values of options reach standard error as they are."""
+        odd = "\x1b[31m\u202e"
+        for words in (("show", "run.xa", "1", "-o", f"{odd}.jpg"), ("show", "run.xa", "1-2", "-o", f"{odd}.png"), ("movie", "run.xa", "-o", f"{odd}.jpg"),
+                      ("contact", "run.xa", "-o", f"{odd}.jpg"), ("compare", "run.xa", odd, "run.xa"), ("show", "run.xa", odd), ("show", "run.xa", "1", odd),
+                      ("sheet", "run.xa", f"--{odd}"), (odd,)):
+            said = self.luux(*words, status=FAILED).stderr.decode()
+            self.assertIn("\\x1B[31m\\u{202E}", said)
+            self.assertTrue(all(letter.isprintable() or letter == "\n" for letter in said), said)
+
+    def test_a_demonstration_replaces_nothing(self):
+        """Only what another demonstration left there."""
+        self.put("mine/runs/good.xa", self.data)
+        self.put("ours/contact.png", b"a picture")
+        for folder, name in (("mine", "runs/good.xa"), ("ours", "contact.png")):
+            done = self.luux("demo", folder, status=FAILED)
+            self.assertEqual((done.stdout, done.stderr.decode()), (
+                b"", f"luux: {folder}/{name}: cannot be written: it exists, and is not of a demonstration; name another folder\n"))
+        self.luux("demo", "new")
+        self.luux("demo", "new")

@@ -191,9 +191,6 @@ class TestFuzz(Fuzz):
         self.assertLessEqual({0, 1, 9, 15, 16, 18}, set(codes), codes)
 
 
-__all__ = ["TestFuzz"]
-
-
 def main():
     parser = argparse.ArgumentParser(description=__doc__, formatter_class=argparse.RawDescriptionHelpFormatter)
     parser.add_argument("--count", type=int, default=20_000)

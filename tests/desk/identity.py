@@ -3,10 +3,9 @@
 import json
 import random
 
+from desk.common import FINE, REFUSED, Desk, with_head
 from generators import enhanced_xa as xa
 from generators.objects import element, encode
-
-from .common import FINE, REFUSED, Desk, with_head
 from reference import attributes as tags
 
 TAGS = {"sop_instance_uid": (0x00080018, "UI", "1.2.3.4.5"), "study_instance_uid": (0x0020000D, "UI", "1.2.3.4"),
@@ -60,7 +59,8 @@ class TestIdentity(Desk):
         for secret in (b"Secret", b"SECRET", b"19010203"):
             self.assertNotIn(secret, said)
         self.assertIn(b"SECRET-78", self.luux("rows", "bad.xa", "--names", "--patient").stdout)
-        self.luux("rows", "bad.xa", "--patient", status=2)
+        for command in ("rows", "judge"):
+            self.assertIn(b"required", self.luux(command, "bad.xa", "--patient", status=2).stderr)
 
     def test_absent(self):
         made = model()
@@ -91,4 +91,7 @@ class TestIdentity(Desk):
                               ("GB18030", "gb18030")):
             self.assertEqual(self.told(encode(model(charset, code)))["institution_name"], "Klinikum Süd", charset)
         odd = model("ISO_IR 192", "utf-8", more={0x00080080: ("LO", "a\x1b[31m\u202ebc\n".encode())})
-        self.assertEqual(self.told(encode(odd))["institution_name"], "a\\x1B[31m\\x202Ebc\\x0A")
+        self.assertEqual(self.told(encode(odd))["institution_name"], "a\\x1B[31m\\u{202E}bc\\x0A")
+        # Blanks of any width are no harm.
+        wide = model("ISO_IR 192", "utf-8", more={0x00080080: ("LO", "\u5c71\u3000\u7530\u00a0\u7530".encode())})
+        self.assertEqual(self.told(encode(wide))["institution_name"], "\u5c71\u3000\u7530\u00a0\u7530")

@@ -5,10 +5,9 @@ import random
 import re
 import shutil
 import subprocess
-import unittest
 
-from generators import enhanced_xa as xa
 from desk.common import CLASSES, LARGE, ROOT, Desk, good_run, with_head
+from generators import enhanced_xa as xa
 from reference import attributes as tags
 from reference import drawing
 
@@ -98,6 +97,26 @@ class TestInstall(Desk):
                                 cwd=os.path.join(ROOT, "host"))
         self.assertRegex(said, r"test result: ok\. [1-9]\d* passed; 0 failed; 0 ignored")
 
+    def test_old_rust(self):
+        """The wrapper says which Rust is needed before it proves or builds anything."""
+        for name in ("luux", ".ci/packages", "host/Cargo.toml"):
+            os.makedirs(os.path.dirname(self.path("root", name)), exist_ok=True)
+            shutil.copy(os.path.join(ROOT, name), self.path("root", name))
+        with open(self.path("root", "host", "Cargo.toml"), encoding="utf-8") as file:
+            needed = re.search(r'^rust-version = "(.*)"$', file.read(), re.M)[1]
+        self.put("tools/dpkg-query", b"#!/bin/sh\necho installed\n")
+        self.put("tools/rt", b"#!/bin/sh\nexit 7\n")
+        major, minor = map(int, needed.split("."))
+        for version, too_old in ((f"{major}.{minor - 1}.9", True), (f"{major}.9.0", True), ("", True), (f"{needed}.0", False),
+                                 (f"{major}.{minor + 100}.1-nightly", False), (f"{major + 1}.0.0", False)):
+            self.put("tools/rustc", f"#!/bin/sh\necho 'rustc {version} (hash date)'\n".encode() if version else b"#!/bin/sh\nexit 1\n")
+            for name in ("dpkg-query", "rt", "rustc"):
+                os.chmod(self.path("tools", name), 0o755)
+            said = self.luux("--version", tool=self.path("root", "luux"), status=2, env={**os.environ, "PATH": self.path("tools") + ":" + os.environ["PATH"]})
+            wanted = f"luux: Rust {needed} or later is needed, and rustc --version says {version or 'nothing'}\n"
+            self.assertEqual(said.stderr.decode() == wanted, too_old, said.stderr)
+            self.assertEqual(b"proving and building the library" in said.stderr, not too_old, said.stderr)
+
     def test_constants(self):
         """Each code has one name; the sizes are those of the tool's own reader."""
         with open(os.path.join(ROOT, "include", "luuxidgaan.h"), encoding="utf-8") as file:
@@ -141,6 +160,3 @@ class TestInstall(Desk):
             self.assertLessEqual(size, limit, name)
             if name in stated:
                 self.assertGreater(size, 0.8 * limit, name)
-
-
-__all__ = [name for name, one in list(globals().items()) if isinstance(one, type) and issubclass(one, unittest.TestCase) and one is not Desk]

@@ -6,7 +6,7 @@ import shutil
 import subprocess
 import unittest
 
-from .common import FAILED, ROOT, TOOL, Desk
+from desk.common import FAILED, ROOT, TOOL, Desk
 
 COMMANDS = {"rows", "judge", "show", "movie", "contact", "sheet", "compare", "canonical", "duplicates", "linear", "report", "completions", "slip", "demo"}
 
@@ -52,5 +52,5 @@ class TestPages(Desk):
                 subprocess.run(["mandoc", "-Tutf8", self.path("man", "man1", name)], check=True, stdout=subprocess.DEVNULL)
         with open(self.path("man", "man1", "luux-judge.1"), encoding="utf-8") as file:
             page = file.read().replace("\\-", "-")
-        for word in ("--slips", "--long", "--patient", "39 rules"):
+        for word in ("--slips", "--long", "--patient", "all rules"):
             self.assertIn(word, page)

@@ -3,18 +3,18 @@
 import base64
 import csv
 import html
+import json
 import os
 import random
 import re
 import unittest
 
+from desk import browser
+from desk.common import FAILED, FINE, LARGE, SENTENCES, Desk, alone, read_png, with_head
 from generators import enhanced_xa as xa
 from generators.objects import encode
 from reference import attributes as tags
 from reference import drawing, sheet
-
-from . import browser
-from .common import FAILED, FINE, LARGE, SENTENCES, Desk, read_png, with_head
 
 HOSTILE = "<script>window.hurt=1</script>\"'><img src=x onerror=window.hurt=1>"
 HOSTILE_FILE = "runs/<img src=x onerror='window.hurt=1'>&amp;\".dcm"
@@ -87,7 +87,11 @@ class TestReport(Reported):
         self.assertEqual((row["sop_instance_uid"], row["institution_name"], row["station_name"]), ("1.2.3.2", "Klinikum Nord", "ANGIO-1"))
         self.assertEqual((rows["runs/b.dcm"]["by"], rows["runs/b.dcm"]["frame"]), ("rule 30", "7"))
         self.assertEqual((rows["runs/g.dcm"]["by"], rows["runs/g.dcm"]["institution_name"]), ("code 1", "Klinikum Nord"))
-        self.assertEqual((rows["runs/a-10.dcm"]["verdict"], rows["runs/a-10.dcm"]["frames"], rows["runs/lost.dcm"]["verdict"]), ("accepted", "9", "not read"))
+        self.assertEqual((rows["runs/a-10.dcm"]["verdict"], rows["runs/a-10.dcm"]["frames"], rows["runs/lost.dcm"]["verdict"]), ("accepted", "9", "none"))
+        # As luux judge --json says it; the page says what the summary says.
+        said = map(json.loads, self.lines("judge", "runs", "--json", status=FAILED))
+        self.assertEqual({one["path"]: one["verdict"] for one in said}, {name: row["verdict"] for name, row in rows.items()})
+        self.assertIn('data-verdict="could not be read"', self.page)
         # A cell that would be a formula is none; what is only text stays as it is.
         self.assertEqual((rows[HOSTILE_FILE]["station_name"], rows[HOSTILE_FILE]["institution_name"]), ("'=1+1", HOSTILE))
 
@@ -130,12 +134,48 @@ class TestReport(Reported):
         os.mkdir(self.path("none"))
         self.assertIn(b"nothing was reported", self.luux("report", "none", status=FAILED).stderr)
         self.assertIn(b"cannot be written", self.luux("report", "runs", "-o", "no/such/page.html", status=FAILED).stderr)
-        # The page and the table are no runs, and a run is never written over.
-        self.assertIn("10 files", self.lines("report", "runs", "-o", "runs/page.html", "--csv")[0])
-        self.assertIn("10 files", self.lines("report", "runs", "-o", "runs/page.html", "--csv")[0])
-        self.luux("report", "runs/c.dcm", "-o", "runs/c.dcm", status=FAILED)
-        with open(self.path("runs", "c.dcm"), "rb") as file:
-            self.assertEqual(file.read(), self.runs["runs/c.dcm"])
+
+    def test_an_older_report_is_replaced(self):
+        """The page and the table are no runs; that they are skipped is said and counted."""
+        for passed_over, told in (("", b""), (", 2 skipped", b"luux: runs/page.csv: skipped: luux writes this file\nluux: runs/page.html: skipped: luux writes this file\n")):
+            done = self.luux("report", "runs", "-o", "runs/page.html", "--csv")
+            self.assertTrue(done.stdout.decode().startswith(f"runs/page.html: 10 files of 5 senders: 3 accepted, 6 refused, 1 could not be read{passed_over}\n"), done.stdout)
+            self.assertEqual(done.stderr, told)
+        # Without --csv the table of another time is a file like any other.
+        self.assertIn("1 could not be read, 1 not ours, 1 skipped", self.lines("report", "runs", "-o", "runs/page.html")[0])
+
+    def test_nothing_else_is_replaced(self):
+        """Neither a run nor any other file, whether it was named, found in a folder or neither; and nothing is looked at first."""
+        self.put("other/notes.html", b"<!DOCTYPE html>\n<p>notes</p>")
+        self.put("other/night.csv", b"file,verdict\n")
+        self.put("runs/x.csv", self.runs["runs/c.dcm"])
+        # A DICOM file may start with any 128 bytes.
+        self.put("runs/odd.dcm", self.page.encode()[:128] + self.runs["runs/c.dcm"][128:])
+        self.assertIn("runs/odd.dcm: accepted", self.lines("judge", "runs/odd.dcm"))
+        before = self.content()
+        page, table, run = ("it exists, and is no page that luux wrote; name another page", "it exists, and is no table that luux wrote; name another page",
+                            "it is the input itself; name another file")
+        for words, name, reason in (
+                (("runs", "-o", "runs/c.dcm"), "runs/c.dcm", run), (("runs/c.dcm", "-o", "runs/c.dcm"), "runs/c.dcm", run),
+                (("runs/d.dcm", "-o", "runs/c.dcm"), "runs/c.dcm", page), (("runs", "-o", "runs/odd.dcm"), "runs/odd.dcm", run),
+                (("runs", "-o", "runs/x.html", "--csv"), "runs/x.csv", run), (("runs/x.csv", "-o", "runs/x.html", "--csv"), "runs/x.csv", run),
+                (("page.html", "-o", "page.html"), "page.html", run), (("runs", "-o", "other/night.html", "--csv"), "other/night.csv", table),
+                (("runs", "-o", "other/notes.html"), "other/notes.html", page), (("runs", "-o", "runs/lost.dcm"), "runs/lost.dcm", page),
+                (("runs", "-o", "runs"), "runs", page), (("runs", "-o", "page.csv"), "page.csv", page),
+                (("runs", "-o", "new.csv", "--csv"), "new.csv", "the table of --csv has the same name; name another page")):
+            done = self.luux("report", *words, status=FAILED)
+            self.assertEqual((done.stdout, done.stderr.decode()), (b"", f"luux: {name}: cannot be written: {reason}\n"))
+        self.assertEqual(self.content(), before)
+
+    def content(self):
+        """All files, by name."""
+        found = {}
+        for folder, _, names in os.walk(self.folder):
+            for name in names:
+                path = os.path.join(folder, name)
+                with open(path, "rb") if os.path.exists(path) else open(os.devnull, "rb") as file:
+                    found[os.path.relpath(path, self.folder)] = file.read()
+        return found
 
     def test_what_is_not_ours(self):
         """Files that are certainly no runs are listed as such, and count for no sender and no letter."""
@@ -155,6 +195,8 @@ class TestReport(Reported):
         self.assertEqual(stripped("--jobs", "1"), stripped("--jobs", "5"))
 
 
+# Alone: some tests give the page a fraction of a second, and what it does later on a busy machine they would not see.
+@alone
 @unittest.skipUnless(browser.program(), "chromium is not installed")
 class TestReportInABrowser(Reported):
     def setUp(self):
@@ -192,7 +234,7 @@ class TestReportInABrowser(Reported):
 
     def test_it_filters(self):
         page = self.browser
-        for selector, value, wanted in (("#verdict", "accepted", ["runs/a-10.dcm", "runs/c.dcm", "runs/f.dcm"]), ("#verdict", "not read", ["runs/lost.dcm"]),
+        for selector, value, wanted in (("#verdict", "accepted", ["runs/a-10.dcm", "runs/c.dcm", "runs/f.dcm"]), ("#verdict", "could not be read", ["runs/lost.dcm"]),
                                         ("#by", "rule 2", [HOSTILE_FILE, "runs/d.dcm", "runs/e.dcm"]), ("#by", "code 1", ["runs/g.dcm"])):
             page.choose(selector, value)
             self.assertEqual(self.shown(), wanted)

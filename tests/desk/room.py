@@ -5,7 +5,7 @@ import resource
 import subprocess
 import unittest
 
-from desk.common import FAILED, FINE, REFUSED, ROOT, SENTENCES, TOOL, Desk, good_run, with_head
+from desk.common import FAILED, FINE, REFUSED, ROOT, SENTENCES, TOOL, Desk, alone, good_run, with_head
 from generators.objects import element_header, item_header
 
 ROW = 28  # bytes
@@ -46,6 +46,8 @@ def limited(size):
     return lambda: resource.setrlimit(resource.RLIMIT_DATA, (size, size))
 
 
+# Alone: it compares processor times, and one test needs several files in memory at the same moment.
+@alone
 class TestMemory(Desk):
     bare = False
 
@@ -79,6 +81,16 @@ class TestMemory(Desk):
         self.luux("judge", "runs", "--memory", "4M", "--map", status=REFUSED)
         for wrong in ("-1", "many", "4T", "99999999999999999999", "9999999999999G"):
             self.assertIn(b"such as 800M", self.luux("judge", "runs", f"--memory={wrong}", status=FAILED).stderr)
+
+    def test_the_copy_without_masks_counts(self):
+        """With --both a run takes its bytes twice."""
+        self.put("run.dcm", with_head(good_run(frames=4, rows=64, columns=64)))
+        size = os.path.getsize(self.path("run.dcm"))
+        for words in (("show", "run.dcm", "2", "-o", "x.png"), ("movie", "run.dcm", "-o", "x.png")):
+            self.luux(*words, "--memory", str(size))
+            self.luux(*words, "--both", "--memory", str(2 * size))
+            done = self.luux(*words, "--both", "--memory", str(2 * size - 1), status=FAILED)
+            self.assertEqual(done.stderr.decode().split(" bytes")[0], f"luux: run.dcm: for its copy without masks it needs {size}")
 
     def test_rows_count(self):
         """Rows count as memory of a file: it waits while they do not fit beside others, and is refused if they never do."""
@@ -160,6 +172,3 @@ class TestMemory(Desk):
         taken, host, call = min(self.judge_worst(LARGEST) for _ in range(2))
         print(f"\n1 GiB of headers: luux judge {taken:.2f} s of the processor, a host that reads it and makes one call {host:.2f} s, the call {call:.2f} s")
         self.assertLess(taken, 1.2 * host)
-
-
-__all__ = [name for name, one in list(globals().items()) if isinstance(one, type) and issubclass(one, unittest.TestCase) and one is not Desk]

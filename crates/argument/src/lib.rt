@@ -1,4 +1,4 @@
-// A number in plain decimal digits, from an argument of a program.
+// A number in plain decimal digits, from an argument of a program; and the frame number that is the one argument of some programs.
 ghost use mathlib.Core.Path.{_≡_};
 ghost use Prim.Native.Nat.{_<_};
 ghost use Rattle.argument.specs.Digits.{moreOf, withByte, argumentOf};
@@ -49,4 +49,34 @@ pub fn read_decimal(text: &[u8]) -> Decimal
         d = with_byte(d, text[i]);
     }
     d
+}
+
+pub enum FrameArgument {
+    Number(u64),
+    None,
+}
+
+// The program's one argument, a frame's number. If it is none, a line on standard output says what is wanted.
+pub fn read_frame() -> FrameArgument {
+    if os::arg_count() != 2 {
+        io::write_all(1, b"frame: one number is wanted\n");
+        return FrameArgument::None;
+    }
+    let mut text = [0u8; 20];
+    let n = os::arg(1, &mut text);
+    if os::errno() != 0 {
+        io::write_all(1, b"frame: at most 20 digits\n");
+        return FrameArgument::None;
+    }
+    match read_decimal(&text[..n]) {
+        Decimal::Number(frame) => FrameArgument::Number(frame),
+        Decimal::TooLarge => {
+            io::write_all(1, b"frame: at most 18446744073709551615\n");
+            FrameArgument::None
+        }
+        Decimal::NotNumber => {
+            io::write_all(1, b"frame: a number is wanted\n");
+            FrameArgument::None
+        }
+    }
 }

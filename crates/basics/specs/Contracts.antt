@@ -1,4 +1,4 @@
--- How the code's table of forms relates to the definition of a VR's form. None of this is in document 01.
+-- How the code's table of forms relates to the definition of a VR's form. None of this is in the papers.
 use mathlib.Core.Path.{_≡_}
 use Prim.Native.Nat.{ℕ, _+_, _*_, _/_, _%_, _^_, _<_}
 use Rattle.basics.specs.Vr.{formOf}

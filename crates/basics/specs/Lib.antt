@@ -1,4 +1,5 @@
 pub mod Bytes
+pub mod Lists
 pub mod Vr
 pub mod Tags
 pub mod Limits

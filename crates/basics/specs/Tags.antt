@@ -10,11 +10,11 @@ MediaStorageSOPClassUID = 0x0002_0002
 abbrev pub TransferSyntaxUID : ℕ
 TransferSyntaxUID = 0x0002_0010
 
-abbrev pub SOPClassUID : ℕ
-SOPClassUID = 0x0008_0016
-
 abbrev pub ImageType : ℕ
 ImageType = 0x0008_0008
+
+abbrev pub SOPClassUID : ℕ
+SOPClassUID = 0x0008_0016
 
 abbrev pub AcquisitionDateTime : ℕ
 AcquisitionDateTime = 0x0008_002A
@@ -180,3 +180,16 @@ PerFrameFunctionalGroupsSequence = 0x5200_9230
 
 abbrev pub PixelData : ℕ
 PixelData = 0x7FE0_0010
+
+-- Item, Item Delimitation Item and Sequence Delimitation Item, and their group.
+abbrev pub itemTag : ℕ
+itemTag = 0xFFFE_E000
+
+abbrev pub itemDelimiter : ℕ
+itemDelimiter = 0xFFFE_E00D
+
+abbrev pub sequenceDelimiter : ℕ
+sequenceDelimiter = 0xFFFE_E0DD
+
+abbrev pub itemGroup : ℕ
+itemGroup = 0xFFFE

@@ -1,7 +1,7 @@
-// The base of every other crate: numbers in bytes, tags, VRs, and how large a data set may be. specs/ defines each, and the fields of an
-// answer. No function of this crate is a public call: each requires that the bytes it reads exist.
+// What most crates build on: numbers in bytes, tags, VRs, and how large a data set may be. specs/ defines each, and the fields of an
+// answer. No function of this crate is a public call: one that reads at an offset requires that the bytes there exist.
 ghost use mathlib.Core.Path.{_≡_};
-ghost use Prim.Native.Nat.{_+_, _≤_, _<_};
+ghost use Prim.Native.Nat.{_+_, _-_, _≤_, _<_};
 ghost use lib.ListN.{length};
 ghost use Rattle.basics.specs.Bytes.{sameBytes, le16, le32, tagAt, vrAt};
 ghost use Rattle.basics.specs.Vr.{formOf};
@@ -13,8 +13,16 @@ pub mod vrs;
 // The most bytes that a data set may have.
 pub const LARGEST: usize = 1_073_741_824;
 
-// The most rows that it can have.
-pub const MOST_ROWS: usize = 134_217_728;
+// The most rows that it can have: a row takes at least 8 bytes.
+pub const MOST_ROWS: usize = LARGEST / 8;
+
+// The largest frame number.
+pub const LAST_FRAME: usize = 65_535;
+
+// The most mask items of an object, and the most mask frames of an item.
+pub const MOST_MASKS: usize = 16;
+
+pub const MOST_MASK_FRAMES: usize = 64;
 
 pub fn wide(x: u8) -> usize
     ensures { λ r. ⌜ (r ≡ x) × (r < 256) ⌝ }
@@ -26,6 +34,13 @@ pub fn wider(x: u32) -> usize
     ensures { λ r. ⌜ r ≡ x ⌝ }
 {
     x as usize
+}
+
+// a - b, or 0 if b is larger.
+pub fn less(a: usize, b: usize) -> usize
+    ensures { λ r. ⌜ r ≡ a - b ⌝ }
+{
+    if b <= a { a - b } else { 0 }
 }
 
 // Whether two runs of bytes are the same.

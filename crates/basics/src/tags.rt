@@ -5,9 +5,9 @@ pub const MEDIA_STORAGE_SOP_CLASS_UID: usize = 0x0002_0002;
 
 pub const TRANSFER_SYNTAX_UID: usize = 0x0002_0010;
 
-pub const SOP_CLASS_UID: usize = 0x0008_0016;
-
 pub const IMAGE_TYPE: usize = 0x0008_0008;
+
+pub const SOP_CLASS_UID: usize = 0x0008_0016;
 
 pub const ACQUISITION_DATETIME: usize = 0x0008_002A;
 
@@ -110,3 +110,12 @@ pub const SHARED_FUNCTIONAL_GROUPS_SEQUENCE: usize = 0x5200_9229;
 pub const PER_FRAME_FUNCTIONAL_GROUPS_SEQUENCE: usize = 0x5200_9230;
 
 pub const PIXEL_DATA: usize = 0x7FE0_0010;
+
+// Item, Item Delimitation Item and Sequence Delimitation Item, and their group.
+pub const ITEM: usize = 0xFFFE_E000;
+
+pub const ITEM_DELIMITER: usize = 0xFFFE_E00D;
+
+pub const SEQUENCE_DELIMITER: usize = 0xFFFE_E0DD;
+
+pub const ITEM_GROUP: usize = 0xFFFE;

@@ -1,4 +1,4 @@
--- What the functions that make an answer ask: its fields fit 32 bits; masked is 0 or 1.
+-- What the functions that make an answer ask: its fields fit 32 bits. Masked needs no bound: it is 0 or 1.
 use Prim.Native.Nat.{_<_}
 use Rattle.basics.specs.Fields.{Fields}
 

@@ -6,10 +6,12 @@ ghost use Rattle.c_answers.specs.Host.{hostVersion, hosted, withSearches
 ghost use Rattle.c_answers.specs.Contracts.{Fits32};
 
 // The version of the calls for hosts, XA_VERSION of the header.
-pub fn hostVersion() -> u32
+const VERSION: u32 = 1;
+
+pub fn host_version() -> u32
     ensures { λ r. ⌜ r ≡ hostVersion ⌝ }
 {
-    1
+    VERSION
 }
 
 // What every call answers. Fields that a code does not name are 0; the definitions `fieldsOf` say which code names which.

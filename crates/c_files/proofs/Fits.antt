@@ -21,8 +21,9 @@ use Rattle.display.specs.declared.ShowAnswer.the-variants as shown
 use Rattle.meta.specs.Meta.{metaOf, part}
 use Rattle.meta.specs.declared.Meta.{Meta}
 use Rattle.meta.specs.declared.Meta.the-variants as head
-use Rattle.file.specs.File.{sameClass, readIn, readPart, readBy, readFileOf, readFields, judgeIn, judgePart, judgeBy, judgeFileOf}
-use Rattle.file.specs.File.{judgeFields, showIn, showPart, showBy, showFileOf, showFields}
+use Rattle.file_read.specs.ReadFile.{sameClass, readIn, readPart, readBy, readFileOf, readFields}
+use Rattle.file_judge.specs.JudgeFile.{judgeIn, judgePart, judgeBy, judgeFileOf, judgeFields}
+use Rattle.file_show.specs.ShowFile.{showIn, showPart, showBy, showFileOf, showFields}
 use Rattle.c_answers.specs.Contracts.{Fits32}
 use Rattle.c_answers.proofs.Fits.{alone-fits}
 use Rattle.c_read.proofs.Fits.{read-fits}

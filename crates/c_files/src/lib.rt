@@ -1,13 +1,15 @@
 // The answers about files as numbers, for hosts in C.
 use c_answers::Answer;
-use file::CountedFile;
-use file::JudgeFileAnswer;
-use file::ReadFileAnswer;
-use file::ShowFileAnswer;
-use file::Start;
+use file_judge::CountedFile;
+use file_judge::JudgeFileAnswer;
+use file_read::ReadFileAnswer;
+use file_read::Start;
+use file_show::ShowFileAnswer;
 ghost use mathlib.Core.Path.{_≡_};
-ghost use Rattle.file.specs.File.{startFields, readFields, judgeFields, showFields};
-ghost use Rattle.file.specs.Searches.{countedFields};
+ghost use Rattle.file_read.specs.ReadFile.{startFields, readFields};
+ghost use Rattle.file_judge.specs.JudgeFile.{judgeFields};
+ghost use Rattle.file_show.specs.ShowFile.{showFields};
+ghost use Rattle.file_judge.specs.Searches.{countedFields};
 ghost use Rattle.c_answers.specs.Host.{hosted};
 ghost use Rattle.c_answers.specs.Contracts.{Fits32};
 ghost use Rattle.c_judge.specs.Judged.{reported};

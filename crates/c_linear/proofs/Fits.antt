@@ -14,7 +14,7 @@ use Rattle.conformance.specs.Judging.{judgeOf}
 use Rattle.conformance.specs.Judging as judging
 use Rattle.display.specs.Show.{isFrameOf, imageSize}
 use Rattle.linear.specs.declared.LinearAnswer.the-variants as linear
-use Rattle.linear.specs.Mapping.{isMapped}
+use Rattle.linear.specs.Mapping.{hasLinearItem}
 use Rattle.linear.specs.Answer.{acceptedAnswer, answerFor, linearOf, fieldsOf}
 use Rattle.c_answers.specs.Contracts.{Fits32}
 use Rattle.c_answers.proofs.Fits.{alone-fits}
@@ -22,7 +22,7 @@ use Rattle.c_judge.proofs.Fits.{judge-fits}
 
 accepted-fits : (ns : List Node) (f : ℕ) (values : List ℕ) (n : ℕ) → Fits32 (counted n) → Fits32 (fieldsOf (acceptedAnswer ns f values n))
 unfolding acceptedAnswer
-accepted-fits ns f values n h = go (isFrameOf ns f) (isMapped ns f) (leb (imageSize ns) (length values))
+accepted-fits ns f values n h = go (isFrameOf ns f) (hasLinearItem ns f) (leb (imageSize ns) (length values))
   where
     go : (t m u : Bool) → Fits32 (fieldsOf (cond t (cond m (cond u (linear.Mapped n) linear.NoValuesRoom) linear.NoItem) linear.NoFrame))
     go true true true = h

@@ -8,12 +8,8 @@ use Rattle.basics.specs.Fields.{Fields, codeAlone}
 use Rattle.sheet.specs.declared.SheetAnswer.{SheetAnswer}
 use Rattle.sheet.specs.declared.SheetAnswer.the-variants as sampled
 use Rattle.sheet.specs.declared.Numbers.{Numbers}
-use Rattle.sheet.specs.Sheet.{numbersIn}
+use Rattle.sheet.specs.Sheet.{sheetSize, numbersIn}
 use Rattle.sheet.specs.Answer.{fieldsOf}
-
--- How many numbers a sheet has.
-abbrev pub sheetSize : ℕ
-sheetSize = 260
 
 -- The fields of the answer. `room` says whether the buffer holds a sheet: where it does not, and the sheet was else done, the answer is 11.
 abbrev pub sheetFields : Bool → SheetAnswer → Fields

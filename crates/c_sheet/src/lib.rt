@@ -7,22 +7,19 @@ ghost use mathlib.Core.Path.{_≡_};
 ghost use Prim.Native.Nat.{_≤_};
 ghost use lib.ListN.{length, getD};
 ghost use Rattle.pixel.specs.Contracts.{painted};
-ghost use Rattle.sheet.specs.Sheet.{numbersIn};
+ghost use Rattle.sheet.specs.Sheet.{sheetSize, numbersIn};
 ghost use Rattle.sheet.specs.Answer.{fieldsOf};
 ghost use Rattle.c_answers.specs.Host.{hosted};
 ghost use Rattle.c_answers.specs.Contracts.{Fits32};
 ghost use Rattle.c_sheet.specs.Contracts.{SheetFits32};
-ghost use Rattle.c_sheet.specs.Sheet.{sheetSize, sheetFields, holdsSheet, sheetAfter};
-
-// How many numbers a sheet has.
-const NUMBERS: usize = 260;
+ghost use Rattle.c_sheet.specs.Sheet.{sheetFields, holdsSheet, sheetAfter};
 
 // Puts the numbers of a sheet, in the order named, into a buffer that holds them.
 fn put_numbers(t: Numbers, buffer: &mut [u64])
-    requires { ⌜ (length (t .counts) ≡ 256) × (sheetSize ≤ length (now buffer)) ⌝ }
+    requires { ⌜ sheetSize ≤ length (now buffer) ⌝ }
     ensures { λ _. ⌜ now (buffer .exit) ≡ painted (λ k. getD (numbersIn t) k 0) sheetSize (now (buffer .entry)) ⌝ }
 {
-    for k in 0..NUMBERS {
+    for k in 0..sheet::NUMBERS {
         buffer[k] = sheet::number_at(t, k);
     }
 }
@@ -33,7 +30,7 @@ fn put_sheet(t: Numbers, buffer: &mut [u64]) -> bool
     ensures { λ r. ⌜ r ≡ holdsSheet (now (buffer .entry)) ⌝ }
     ensures { λ _. ⌜ now (buffer .exit) ≡ sheetAfter t (now (buffer .entry)) ⌝ }
 {
-    if NUMBERS <= buffer.len() {
+    if sheet::NUMBERS <= buffer.len() {
         put_numbers(t, buffer);
         true
     } else {

@@ -20,7 +20,7 @@ use Rattle.slip.specs.Slip.{mark, version, oldVersion, versionPlace, rowsPlace,
 use Rattle.slip.specs.Slip.{ifPossible, readSized, readVersion, readOf, readSlipFields, writeOf, writeSlipFields}
 use Rattle.slip.proofs.Slips.{slips}
 use Rattle.c_slips.specs.Slips.{rowsNumber}
-use Rattle.c_slips.specs.Contracts.{Narrow}
+use Rattle.c_slips.specs.Contracts.{VerdictFits32}
 
 write-code : (v : Verdict) (buffer : List ℕ) → writeSlipFields (writeOf v buffer) .code ≤ 14
 unfolding writeOf
@@ -70,7 +70,7 @@ rows-narrow v h = go (v .rows) refl
     go (Known n) e = omega (arith, possible-rows v n h e)
     go NotKnown e = omega arith
 
-pub slip-narrow : {a : SlipAnswer} {v : Verdict} (s : List ℕ) → a ≡ readOf s → a ≡ read.Read v → Narrow v
+pub slip-narrow : {a : SlipAnswer} {v : Verdict} (s : List ℕ) → a ≡ readOf s → a ≡ read.Read v → VerdictFits32 v
 slip-narrow {a} {v} s e f =
     let can = slips .read-possible s v (sym e ∙ f) in
     let m = possible-small v can in

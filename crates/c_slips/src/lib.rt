@@ -8,7 +8,7 @@ ghost use mathlib.Core.Path.{_≡_};
 ghost use Prim.Native.Nat.{_<_};
 ghost use Rattle.slip.specs.Slip.{readOf, readSlipFields, writeOf, writeSlipFields, slipBuffer};
 ghost use Rattle.c_slips.specs.Slips.{countIn, verdictIn, knownNumber, rowsNumber, hostedSlip, verdictAnswer};
-ghost use Rattle.c_slips.specs.Contracts.{Narrow};
+ghost use Rattle.c_slips.specs.Contracts.{VerdictFits32};
 
 // The row count of a verdict that does not know it: no verdict has that many rows.
 const NOT_KNOWN: u32 = 4_294_967_295;
@@ -78,7 +78,7 @@ fn rows_number(rows: RowCount) -> u32
 
 // A verdict whose numbers fit 32 bits, as an answer.
 fn answer_of(v: Verdict) -> Answer
-    requires { ⌜ Narrow v ⌝ }
+    requires { ⌜ VerdictFits32 v ⌝ }
     ensures { λ r. ⌜ r ≡ verdictAnswer v ⌝ }
 {
     let rows = v.rows;
@@ -95,7 +95,7 @@ fn answer_of(v: Verdict) -> Answer
 
 // A slip that reads well.
 fn slip_of(v: Verdict) -> Slip
-    requires { ⌜ Narrow v ⌝ }
+    requires { ⌜ VerdictFits32 v ⌝ }
     ensures { λ r. ⌜ r ≡ hostedSlip (readSlipFields (SlipAnswer.Read v)) ⌝ }
 {
     let rows = v.rows;

@@ -13,8 +13,9 @@ ghost use Rattle.searches.specs.Reported.{countedOf};
 ghost use Rattle.searches.specs.Reported as judging;
 ghost use Rattle.display.specs.Show.{showOf, imageOf};
 ghost use Rattle.display.specs.Show as showing;
-ghost use Rattle.file.specs.File.{startOf, startFields, readFileOf, readFields, rowsLeft, showFileOf, showFields, imageLeft};
-ghost use Rattle.file.specs.Searches.{countedFileOf, countedFields};
+ghost use Rattle.file_read.specs.ReadFile.{startOf, startFields, readFileOf, readFields, rowsLeft};
+ghost use Rattle.file_show.specs.ShowFile.{showFileOf, showFields, imageLeft};
+ghost use Rattle.file_judge.specs.Searches.{countedFileOf, countedFields};
 ghost use Rattle.sheet.specs.Answer.{sheetOf};
 ghost use Rattle.compare.specs.Answer.{compareOf};
 ghost use Rattle.compare.specs.Answer as comparing;
@@ -37,7 +38,7 @@ ghost use Rattle.c_slips.specs.Slips.{verdictIn, hostedSlip};
 pub extern "C" fn xa_version() -> u32
     ensures { λ r. ⌜ r ≡ hostVersion ⌝ }
 {
-    c_answers::hostVersion()
+    c_answers::host_version()
 }
 
 // How many rows a data set has. No row is stored.
@@ -48,7 +49,7 @@ pub extern "C" fn xa_count(bytes: &[u8]) -> Answer
     c_read::read_numbers(dataset::count(bytes))
 }
 
-// Reads a data set into rows of seven numbers. Codes 1 to 8 leave the buffer as it was.
+// Reads a data set into rows. Codes 1 to 8 leave the buffer as it was.
 #[no_mangle]
 pub extern "C" fn xa_read(bytes: &[u8], rows: &mut [u32]) -> Answer
     ensures { λ r. ⌜ r ≡ hosted (reading.fieldsOf (answerOf (readingOf (now (bytes .entry))) (now (rows .entry)))) ⌝ }
@@ -57,7 +58,7 @@ pub extern "C" fn xa_read(bytes: &[u8], rows: &mut [u32]) -> Answer
     c_read::read_numbers(dataset::read(bytes, rows))
 }
 
-// Reads a data set into rows of seven numbers and judges it; with code 0 the sum of its searches is named too. Codes 1 to 8 leave the
+// Reads a data set into rows and judges it; with code 0 the sum of its searches is named too. Codes 1 to 8 leave the
 // buffer as it was.
 #[no_mangle]
 pub extern "C" fn xa_judge(bytes: &[u8], rows: &mut [u32]) -> Answer
@@ -67,7 +68,7 @@ pub extern "C" fn xa_judge(bytes: &[u8], rows: &mut [u32]) -> Answer
     c_judge::counted_numbers(searches::judge_counted(bytes, rows))
 }
 
-// Reads a data set into rows of seven numbers, judges it and draws a frame of it, a byte for each sample. Codes 1 to 8 leave the row
+// Reads a data set into rows, judges it and draws a frame of it, a byte for each sample. Codes 1 to 8 leave the row
 // buffer as it was, every code but 0 the image buffer.
 #[no_mangle]
 pub extern "C" fn xa_show(bytes: &[u8], frame: u64, rows: &mut [u32], image: &mut [u8]) -> Answer
@@ -83,26 +84,26 @@ pub extern "C" fn xa_show(bytes: &[u8], frame: u64, rows: &mut [u32], image: &mu
 pub extern "C" fn xa_data_set(file: &[u8]) -> Part
     ensures { λ r. ⌜ r ≡ partOf (startFields (startOf (now (file .entry)))) ⌝ }
 {
-    c_files::start_numbers(file::start_of(file))
+    c_files::start_numbers(file_read::start_of(file))
 }
 
-// Reads a file's data set into rows of seven numbers. Codes 1 to 8 and 15 to 17 leave the buffer as it was.
+// Reads a file's data set into rows. Codes 1 to 8 and 15 to 17 leave the buffer as it was.
 #[no_mangle]
 pub extern "C" fn xa_read_file(file: &[u8], rows: &mut [u32]) -> Answer
     ensures { λ r. ⌜ r ≡ hosted (readFields (readFileOf (now (file .entry)) (now (rows .entry)))) ⌝ }
     ensures { λ _. ⌜ now (rows .exit) ≡ rowsLeft (now (file .entry)) (now (rows .entry)) ⌝ }
 {
-    c_files::read_file_numbers(file::read_file(file, rows))
+    c_files::read_file_numbers(file_read::read_file(file, rows))
 }
 
-// Reads a file's data set into rows of seven numbers and judges it; with code 0 the sum of its searches is named too. Codes 1 to 8 and
+// Reads a file's data set into rows and judges it; with code 0 the sum of its searches is named too. Codes 1 to 8 and
 // 15 to 17 leave the buffer as it was.
 #[no_mangle]
 pub extern "C" fn xa_judge_file(file: &[u8], rows: &mut [u32]) -> Answer
     ensures { λ r. ⌜ r ≡ reported (countedFields (countedFileOf (now (file .entry)) (now (rows .entry)))) ⌝ }
     ensures { λ _. ⌜ now (rows .exit) ≡ rowsLeft (now (file .entry)) (now (rows .entry)) ⌝ }
 {
-    c_files::counted_file_numbers(file::judge_file_counted(file, rows))
+    c_files::counted_file_numbers(file_judge::judge_file_counted(file, rows))
 }
 
 // Judges a file's data set and draws a frame of it, a byte for each sample. Codes 1 to 8 and 15 to 17 leave the row buffer as it
@@ -118,10 +119,10 @@ pub extern "C" fn xa_show_file(
     ensures { λ _. ⌜ now (rows .exit) ≡ rowsLeft (now (file .entry)) (now (rows .entry)) ⌝ }
     ensures { λ _. ⌜ now (image .exit) ≡ imageLeft (now (file .entry)) frame (now (rows .entry)) (now (image .entry)) ⌝ }
 {
-    c_files::show_file_numbers(file::show_file(file, frame, rows, image))
+    c_files::show_file_numbers(file_show::show_file(file, frame, rows, image))
 }
 
-// Reads a data set into rows of seven numbers, judges it and counts the grey levels of its frames `first` to `last`. A buffer for
+// Reads a data set into rows, judges it and counts the grey levels of its frames `first` to `last`. A buffer for
 // fewer than 260 numbers is left alone; any other gets the sheet, or zeros with every code but 0. Codes 1 to 8 leave the row buffer as
 // it was.
 #[no_mangle]
@@ -139,7 +140,7 @@ pub extern "C" fn xa_sheet(
     c_sheet::sheet_numbers(sheet::sheet(bytes, first, last, rows), buffer)
 }
 
-// Reads a data set into rows of seven numbers, judges it and compares cells with a frame of it. Codes 1 to 8 leave the row buffer
+// Reads a data set into rows, judges it and compares cells with a frame of it. Codes 1 to 8 leave the row buffer
 // as it was.
 #[no_mangle]
 pub extern "C" fn xa_compare(
@@ -155,7 +156,7 @@ pub extern "C" fn xa_compare(
     c_compare::compare_numbers(compare::compare(bytes, frame, cells, tolerance, rows))
 }
 
-// Reads a data set into rows of seven numbers, judges it and maps a frame of it by its TO_LINEAR item, a number for each sample. Codes 1
+// Reads a data set into rows, judges it and maps a frame of it by its TO_LINEAR item, a number for each sample. Codes 1
 // to 8 leave the row buffer as it was, every code but 0 the values buffer.
 #[no_mangle]
 pub extern "C" fn xa_linear(
@@ -187,7 +188,7 @@ pub extern "C" fn xa_root_entry(level: u8) -> u16
     squareroot::entry(level)
 }
 
-// Reads a data set into rows of seven numbers and writes its canonical form. Codes 1 to 8 leave the row buffer as it was, every code but
+// Reads a data set into rows and writes its canonical form. Codes 1 to 8 leave the row buffer as it was, every code but
 // 0 the target.
 #[no_mangle]
 pub extern "C" fn xa_canonical(bytes: &[u8], rows: &mut [u32], target: &mut [u8]) -> Rewritten
@@ -195,7 +196,7 @@ pub extern "C" fn xa_canonical(bytes: &[u8], rows: &mut [u32], target: &mut [u8]
     ensures { λ _. ⌜ now (rows .exit) ≡ bufferOf (readingOf (now (bytes .entry))) (now (rows .entry)) ⌝ }
     ensures { λ _. ⌜ now (target .exit) ≡ targetOf (now (bytes .entry)) (now (rows .entry)) (now (target .entry)) ⌝ }
 {
-    canonical::byte_bounds(bytes);
+    canonical::knows_bytes(bytes);
     c_canonical::canonical_numbers(canonical::write_canonical(bytes, rows, target))
 }
 

@@ -1,4 +1,5 @@
--- What `write_canonical` answers, from what reading left.
+-- `write_canonical` answers as defined, because the rows that reading left are the row table of the data set, and the canonical form is no
+-- longer than it.
 use mathlib.Core.Path.{_≡_, sym, ap, _∙_}
 use Prim.Native.Nat.{ℕ, _*_, _≤_}
 use native.Mathlib.Omega.{arith}

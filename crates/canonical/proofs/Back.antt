@@ -13,10 +13,12 @@ use Rattle.dataset.specs.declared.Head.{Head}
 use Rattle.dataset.specs.declared.Head.the-variants as head
 use Rattle.basics.specs.Bytes.{le16, le32, tagAt, vrAt, le}
 use Rattle.basics.specs.Vr.{formOf, SQ}
-use Rattle.dataset.specs.Header.{when, undefined, itemTag, cursor, headerBy, nestedBy, definedBy, longBy, typedAt, taggedAt, sizedBy}
+use Rattle.dataset.specs.Header.{when, undefined, cursor, headerBy, nestedBy, definedBy, longBy, typedAt, taggedAt, sizedBy}
+use Rattle.basics.specs.Tags.{itemTag}
 use Rattle.dataset.specs.Header.{memberAt, elementAt, itemAt}
 use Rattle.dataset.specs.Tree.{Kind, elements, items}
-use Rattle.dataset.specs.Reading.{Row, row, Run, done, level, valueRun, elementsAt, itemsAt, read, whole, readingOf, depths}
+use Rattle.dataset.specs.Reading.{Row, row, Run, done, level, valueRun, elementsAt, read, whole, readingOf, depths}
+use Rattle.dataset.specs.Contracts.{itemsAt}
 use Rattle.basics.specs.Limits.{largest}
 use Rattle.dataset.proofs.Level.{level-on, level-end, value-plain}
 use Rattle.node.specs.Nodes.{Node, nodeOf}

@@ -1,4 +1,4 @@
--- Runs of bytes put one after another.
+-- Bytes put right after other bytes are put as one run, because each store leaves all before it as it was.
 use mathlib.Core.Path.{_≡_, refl, sym, ap, _∙_}
 use mathlib.Core.Bool.{Bool, true, false, cond}
 use Prim.Native.Nat.{ℕ, suc, _+_, _/_, _%_, _≤_, _<_}

@@ -13,9 +13,11 @@ use Rattle.dataset.specs.declared.Head.the-variants as head
 use Rattle.basics.specs.Bytes.{IsBytes, le16, le32, tagAt, vrAt}
 use Rattle.basics.proofs.Bytes.{take-bytes, drop-bytes}
 use Rattle.basics.specs.Vr.{formOf, SQ}
-use Rattle.dataset.specs.Header.{when, itemTag, cursor, moved, headerBy, delimiterBy, nestedBy, definedBy, longBy, typedAt, taggedAt}
+use Rattle.dataset.specs.Header.{when, cursor, moved, headerBy, delimiterBy, nestedBy, definedBy, longBy, typedAt, taggedAt}
+use Rattle.basics.specs.Tags.{itemTag}
 use Rattle.dataset.specs.Header.{sizedBy, memberAt, elementAt, itemAt}
-use Rattle.dataset.specs.Reading.{Row, row, Run, done, refused, onHead, onRun, level, valueRun, elementsAt, itemsAt, Reading, tooLarge}
+use Rattle.dataset.specs.Reading.{Row, row, Run, done, refused, onHead, onRun, level, valueRun, elementsAt, Reading, tooLarge}
+use Rattle.dataset.specs.Contracts.{itemsAt}
 use Rattle.dataset.specs.Reading.{depths}
 use Rattle.dataset.specs.Reading.{refusedAt, read, whole, readingOf}
 use Rattle.basics.specs.Limits.{largest}

@@ -12,7 +12,7 @@ use lib.ListN.{length, take, length-append}
 use lib.Seq.{take-append-seam}
 use Rattle.dataset.specs.Reading.{depths}
 use Rattle.basics.specs.Vr.{formOf, listed, SQ}
-use Rattle.dataset.specs.Header.{itemTag}
+use Rattle.basics.specs.Tags.{itemTag}
 use Rattle.dataset.specs.Tree.{Kind, elements, items}
 use Rattle.dataset.proofs.Laws.{item-formless}
 use Rattle.node.specs.Nodes.{Node}

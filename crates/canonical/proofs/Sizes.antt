@@ -1,4 +1,5 @@
--- Sizes of nodes: of parts of a list of them, and of the bytes that are written of them.
+-- Sizes of nodes add up over parts of their list, and the bytes written for them have that size, because a header has the size that is
+-- counted for it.
 use mathlib.Core.Path.{_≡_, refl, ap}
 use Prim.Native.Nat.{ℕ, zero, suc, _+_, _≤_, _<_}
 use native.Mathlib.Omega.{arith}

@@ -37,7 +37,7 @@ targetBy w target canonical.NoRoom = target
 unfoldable pub targetOf : List ℕ → List ℕ → List ℕ → List ℕ
 targetOf s rows target = targetBy (writtenOf (nodesOf s)) target (canonicalOf s rows target)
 
--- The papers' numbers for each case: those of an answer, and the length of the canonical form.
+-- The paper's numbers for each case: those of an answer, and the length of the canonical form.
 pub record Rewritten : Type 0 where
   pub answer : Fields
   pub size : ℕ

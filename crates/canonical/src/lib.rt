@@ -16,7 +16,7 @@ ghost use Rattle.canonical.specs.Written.{letters, lengthOf, header, hea
 ghost use Rattle.basics.specs.Bytes.{IsBytes, le};
 use dataset::ReadAnswer;
 
-// ---- IsBytes into the target
+// ---- Bytes into the target
 
 // A number as two bytes, and as four.
 fn put_u16(target: &mut [u8], at: usize, x: usize)
@@ -171,7 +171,7 @@ fn put_members(
 // ---- The call
 
 // Each byte is below 256. That is known where a byte is read; it is stated here for callers that read none.
-pub fn byte_bounds(bytes: &[u8])
+pub fn knows_bytes(bytes: &[u8])
     ensures { λ _. ⌜ IsBytes (now (bytes .entry)) ⌝ }
 {
     if 0 < bytes.len() {
@@ -195,7 +195,7 @@ pub fn write_canonical(bytes: &[u8], rows: &mut [u32], target: &mut [u8]) -> Can
     ensures { λ _. ⌜ now (rows .exit) ≡ bufferOf (readingOf (now (bytes .entry))) (now (rows .entry)) ⌝ }
     ensures { λ _. ⌜ now (target .exit) ≡ targetOf (now (bytes .entry)) (now (rows .entry)) (now (target .entry)) ⌝ }
 {
-    byte_bounds(bytes);
+    knows_bytes(bytes);
     match dataset::read(bytes, rows) {
         ReadAnswer::TooLarge => CanonicalAnswer::TooLarge,
         ReadAnswer::Refused(code, offset) => CanonicalAnswer::Refused(code, offset),

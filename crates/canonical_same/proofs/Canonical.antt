@@ -30,7 +30,8 @@ use Rattle.canonical.specs.Written.{writtenOf}
 use Rattle.canonical.specs.Answer.{answerFor, targetBy, canonicalOf, targetOf, fieldsOf}
 use Rattle.canonical.specs.declared.CanonicalAnswer.the-variants as canonical
 use Rattle.canonical.proofs.Theorems.{written-returns}
-use Rattle.canonical_same.specs.Canonical.{canonicalForm, ReadsWell, rowIn, valueBytes, AgreeAt, Agree, AnswersAlike, Answered}
+use Rattle.canonical_same.specs.Canonical.{canonicalForm, ReadsWell, rowIn, valueBytes, AgreeAt, Agree, Answered}
+use Rattle.canonical_same.specs.Answers.{AnswersAlike}
 use Rattle.canonical_same.specs.Canonical.{Canonical}
 
 -- ---- The same nodes: judged and drawn alike

@@ -26,14 +26,10 @@ use Rattle.dataset.specs.Answer as reading
 use Rattle.dataset.specs.declared.ReadAnswer.the-variants as read-answer
 use Rattle.dataset.specs.Tree.{rowsOf, rowAt}
 use Rattle.node.specs.Nodes.{nodesOf}
-use Rattle.conformance.specs.Judging.{judgeOf}
-use Rattle.searches.specs.Reported.{reportedOf}
-use Rattle.display.specs.Show.{showOf, imageOf}
-use Rattle.sheet.specs.Answer.{sheetOf}
-use Rattle.compare.specs.Answer.{compareOf}
 use Rattle.canonical.specs.Written.{writtenOf}
 use Rattle.canonical.specs.Answer.{canonicalOf, targetOf, fieldsOf}
 use Rattle.canonical.specs.declared.CanonicalAnswer.the-variants as canonical
+use Rattle.canonical_same.specs.Answers.{AnswersAlike}
 
 -- The canonical form of a data set.
 abbrev pub canonicalForm : List ℕ → List ℕ
@@ -64,16 +60,6 @@ pub record AgreeAt (s t : List ℕ) (i : ℕ) : Type 0 where
 pub record Agree (s t : List ℕ) : Type 0 where
   pub count : length (rowsOf s) ≡ length (rowsOf t)
   pub each : (i : ℕ) → i < length (rowsOf s) → AgreeAt s t i
-
--- Judged, drawn, sampled and compared alike, with any buffers, frame numbers, cells and tolerance.
-pub record AnswersAlike (s t : List ℕ) : Type 0 where
-  pub judged : (rows : List ℕ) → judgeOf s rows ≡ judgeOf t rows
-  pub searches : (rows : List ℕ) → reportedOf s rows ≡ reportedOf t rows
-  pub shown : (frame : ℕ) (rows image : List ℕ) → showOf s frame rows image ≡ showOf t frame rows image
-  pub picture : (frame : ℕ) (rows image : List ℕ) → imageOf s frame rows image ≡ imageOf t frame rows image
-  pub sampled : (first last : ℕ) (rows : List ℕ) → sheetOf s first last rows ≡ sheetOf t first last rows
-  pub compared : (frame : ℕ) (cells : List ℕ) (tolerance : ℕ) (rows : List ℕ)
-      → compareOf s frame cells tolerance rows ≡ compareOf t frame cells tolerance rows
 
 -- A data set s, and its canonical form w.
 pub record Written (s w : List ℕ) : Type 0 where

@@ -30,10 +30,6 @@ use Rattle.compare.specs.Comparing.{Comparable, Near, Names, Own, Compar
 
 -- ---- Places
 
-some-place : (k : ℕ) → (k ≡ 0 → ⊥) → 1 ≤ k
-some-place zero d = absurd (d refl)
-some-place (suc k) d = omega arith
-
 none-off : (off : ℕ → Bool) (n : ℕ) → howMany off n ≡ 0 → (i : ℕ) → i < n → off i ≡ false
 unfolding howMany
 none-off off zero z i h = absurd (omega arith)
@@ -69,7 +65,7 @@ first-off off (suc n) h = go (off n) refl (eqb (howMany off n) 0) refl h (first-
     go : (b : Bool) → off n ≡ b → (c : Bool) → eqb (howMany off n) 0 ≡ c → 1 ≤ cond b 1 0 + howMany off n
         → (1 ≤ howMany off n → First off n (firstOff off n)) → First off (suc n) (cond (b && c) n (firstOff off n))
     go true e true z h before = record { place = omega arith; is = e; none-before = none-off off n (eqb-true (howMany off n) 0 z) }
-    go true e false z h before = later off n (firstOff off n) (before (some-place (howMany off n) (eqb-false (howMany off n) 0 z)))
+    go true e false z h before = later off n (firstOff off n) (before (omega (arith, eqb-false (howMany off n) 0 z)))
     go false e c z h before = later off n (firstOff off n) (before (omega (arith, h)))
 
 -- ---- Near and off
@@ -119,7 +115,7 @@ module _ (s : List ℕ) (f : ℕ) (cells : List ℕ) (t : ℕ) where
           (fieldsOf (cond b (answer.Same n) (answer.Differs n (firstOff off size) (howMany off size))) .count)
       go true z e = absurd (omega (arith, e))
       go false z e =
-          let k : 1 ≤ howMany off size = some-place (howMany off size) (eqb-false (howMany off size) 0 z) in
+          let k : 1 ≤ howMany off size = omega (arith, eqb-false (howMany off size) 0 z) in
           let d : First off size (firstOff off size) = first-off off size k in
           record {
             place = omega (arith, d .place, l);

@@ -39,7 +39,7 @@ answerFor ns f cells t judged.NoRoom = answer.NoRoom
 unfoldable pub compareOf : List ℕ → ℕ → List ℕ → ℕ → List ℕ → CompareAnswer
 compareOf s f cells t buffer = answerFor (nodesOf s) f cells t (judgeOf s buffer)
 
--- The papers' numbers for each case: those of an answer, then yes (1) or no (0), the place of the first cell that is off, and how many
+-- The paper's numbers for each case: those of an answer, then yes (1) or no (0), the place of the first cell that is off, and how many
 -- are off.
 pub record Compared : Type 0 where
   pub answer : Fields

@@ -1,7 +1,6 @@
 // Compares another workstation's picture of a frame with ours, cell by cell. No image is kept: each line is drawn by itself.
 ghost use mathlib.Core.Path.{_≡_};
-ghost use mathlib.Core.Bool.{true};
-ghost use Prim.Native.Nat.{ℕ, _*_, _/_, _%_, _≤_, _<_};
+ghost use Prim.Native.Nat.{ℕ, _≤_, _<_};
 ghost use lib.ListN.{length, getD};
 ghost use Rattle.dataset.specs.Reading.{readingOf};
 ghost use Rattle.basics.specs.Fields.{Answers};
@@ -14,11 +13,10 @@ ghost use Rattle.element.specs.Elements.{valueAt};
 ghost use Rattle.conformance.specs.declared.Finding.the-variants as finding;
 ghost use Rattle.conformance.specs.Judging.{findingOf};
 ghost use Rattle.pixel.specs.Pixel.{samplesOf};
-ghost use Rattle.pixel.specs.Contracts.{nativeShade, maskedShade, longestRow, Masks, shifted, Averaged, quarterShade};
-ghost use Rattle.lines.specs.Contracts.{shadesOf, Shaded, MaskedBy};
-ghost use Rattle.display.specs.Contracts.{shadeBy, MasksReady, IsObject, IsScene, IsPixels, IsPlan};
+ghost use Rattle.pixel.specs.Contracts.{maskedShade, Masks};
+ghost use Rattle.lines.specs.Contracts.{shadesOf, LinesReady, WayReady, wayShade};
+ghost use Rattle.display.specs.Contracts.{shadeBy, MasksReady, IsObject, IsPixels, PlanReady};
 ghost use Rattle.display.specs.Show.{imageSize, pictureOf};
-ghost use Rattle.sheet.specs.Contracts.{FrameReady};
 ghost use Rattle.differences.specs.Differences.{isOff};
 ghost use Rattle.differences.specs.Contracts.{along, noneOff, met, Against};
 ghost use Rattle.compare.specs.Answer.{acceptedAnswer, compareOf, fieldsOf};
@@ -28,6 +26,7 @@ use display::Masking;
 use display::Plan;
 use display::Scene;
 use lines::Shades;
+use lines::Way;
 use pixel::Geometry;
 use shift::Moves;
 use value::Num;
@@ -51,97 +50,13 @@ pub enum CompareAnswer {
 
 // ---- A frame, line by line
 
-// A frame that takes no mask.
-fn compare_native(
-    pixels: &[u8],
-    g: Geometry,
-    frame: usize,
-    shades: Shades,
-    table: &[u8],
-    line: &mut [u8],
-    cells: &[u8],
-    tolerance: usize,
-) -> Differing
-    requires { ⌜ FrameReady (now pixels) g frame (now line)
-        × (Shaded shades (g .stored) (now table) × Against (now cells) tolerance (samplesOf g)) ⌝ }
-    ensures { λ r. ⌜ r ≡ met tolerance (nativeShade (shadesOf shades (g .stored)) g (now (pixels .entry)) frame) (now (cells .entry)) (samplesOf g) ⌝ }
-{
-    let height = g.rows;
-    let columns = g.columns;
-    let mut now = Differing { first: 0, count: 0 };
-    for row in 0..height {
-        lines::native_line(pixels, g, frame, row, shades, table, line);
-        let next = differences::compare_line(
-            &line[..columns],
-            cells,
-            row * columns,
-            tolerance,
-            now,
-        );
-        now = next;
-    }
-    now
-}
-
-// A frame whose mask is moved by whole pixels.
-fn compare_whole(
+// All lines of a frame, drawn by its way.
+fn compare_lines(
+    way: Way,
     pixels: &[u8],
     g: Geometry,
     frame: usize,
     masks: &[u8],
-    down: usize,
-    right: usize,
-    shades: Shades,
-    table: &[u8],
-    sums: &mut [u32],
-    line: &mut [u8],
-    cells: &[u8],
-    tolerance: usize,
-) -> Differing
-    requires { ⌜ FrameReady (now pixels) g frame (now line)
-        × (MaskedBy (now pixels) g (now masks) down right
-        × (Shaded shades (g .stored) (now table)
-        × ((shades .filled ≡ true)
-        × ((down % 4 ≡ 0) × ((right % 4 ≡ 0) × ((longestRow ≤ length (now sums)) × Against (now cells) tolerance (samplesOf g))))))) ⌝ }
-    ensures { λ r. ⌜ r ≡ met tolerance (quarterShade (shadesOf shades (g .stored)) g (now (pixels .entry)) frame (usValues (now (masks .entry))) down right) (now (cells .entry)) (samplesOf g) ⌝ }
-{
-    let height = g.rows;
-    let columns = g.columns;
-    let mut now = Differing { first: 0, count: 0 };
-    for row in 0..height {
-        lines::whole_line(
-            pixels,
-            g,
-            frame,
-            masks,
-            down,
-            right,
-            row,
-            shades,
-            table,
-            sums,
-            line,
-        );
-        let next = differences::compare_line(
-            &line[..columns],
-            cells,
-            row * columns,
-            tolerance,
-            now,
-        );
-        now = next;
-    }
-    now
-}
-
-// A frame whose mask rows are blended two at a time. `lower` holds the first line's upper row.
-fn compare_quarters(
-    pixels: &[u8],
-    g: Geometry,
-    frame: usize,
-    masks: &[u8],
-    down: usize,
-    right: usize,
     shades: Shades,
     table: &[u8],
     upper: &mut [u32],
@@ -150,26 +65,23 @@ fn compare_quarters(
     cells: &[u8],
     tolerance: usize,
 ) -> Differing
-    requires { ⌜ FrameReady (now pixels) g frame (now line)
-        × (MaskedBy (now pixels) g (now masks) down right
-        × (Shaded shades (g .stored) (now table)
-        × ((longestRow ≤ length (now upper))
-        × ((longestRow ≤ length (now lower))
-        × (Averaged (now pixels) g (usValues (now masks)) (shifted (down / 4) (g .rows) 0) (now lower)
-        × Against (now cells) tolerance (samplesOf g)))))) ⌝ }
-    ensures { λ r. ⌜ r ≡ met tolerance (quarterShade (shadesOf shades (g .stored)) g (now (pixels .entry)) frame (usValues (now (masks .entry))) down right) (now (cells .entry)) (samplesOf g) ⌝ }
+    requires { ⌜ LinesReady (now pixels) g frame shades (now table) (now upper) (now lower) (now line)
+        × (WayReady way (now pixels) g (now masks) (shades .filled) 0 (now upper) (now lower)
+        × Against (now cells) tolerance (samplesOf g)) ⌝ }
+    ensures { λ r. ⌜ r
+        ≡ met tolerance (wayShade way (shadesOf shades (g .stored)) g (now (pixels .entry)) frame (usValues (now (masks .entry))))
+        (now (cells .entry)) (samplesOf g) ⌝ }
 {
     let height = g.rows;
     let columns = g.columns;
-    let mut now = Differing { first: 0, count: 0 };
+    let mut sofar = differences::none_off();
     for row in 0..height {
-        lines::quarter_line(
+        lines::draw_line(
+            way,
             pixels,
             g,
             frame,
             masks,
-            down,
-            right,
             row,
             shades,
             table,
@@ -182,120 +94,15 @@ fn compare_quarters(
             cells,
             row * columns,
             tolerance,
-            now,
+            sofar,
         );
-        now = next;
+        sofar = next;
     }
-    now
+    sofar
 }
 
-// The same, with the first line's upper row made here.
-fn compare_blended(
-    pixels: &[u8],
-    g: Geometry,
-    frame: usize,
-    masks: &[u8],
-    down: usize,
-    right: usize,
-    shades: Shades,
-    table: &[u8],
-    upper: &mut [u32],
-    lower: &mut [u32],
-    line: &mut [u8],
-    cells: &[u8],
-    tolerance: usize,
-) -> Differing
-    requires { ⌜ FrameReady (now pixels) g frame (now line)
-        × (MaskedBy (now pixels) g (now masks) down right
-        × (Shaded shades (g .stored) (now table)
-        × ((longestRow ≤ length (now upper)) × ((longestRow ≤ length (now lower)) × Against (now cells) tolerance (samplesOf g))))) ⌝ }
-    ensures { λ r. ⌜ r ≡ met tolerance (quarterShade (shadesOf shades (g .stored)) g (now (pixels .entry)) frame (usValues (now (masks .entry))) down right) (now (cells .entry)) (samplesOf g) ⌝ }
-{
-    pixel::average_row(
-        pixels,
-        g,
-        masks,
-        pixel::moved(down / pixel::UNIT, g.rows, 0),
-        lower,
-    );
-    compare_quarters(
-        pixels,
-        g,
-        frame,
-        masks,
-        down,
-        right,
-        shades,
-        table,
-        upper,
-        lower,
-        line,
-        cells,
-        tolerance,
-    )
-}
-
-// A masked frame, by two offsets in quarters. A whole shift takes one mask row for each line; every other takes two.
+// A masked frame.
 fn compare_masked(
-    pixels: &[u8],
-    g: Geometry,
-    frame: usize,
-    masks: &[u8],
-    down: usize,
-    right: usize,
-    shades: Shades,
-    table: &[u8],
-    upper: &mut [u32],
-    lower: &mut [u32],
-    line: &mut [u8],
-    cells: &[u8],
-    tolerance: usize,
-) -> Differing
-    requires { ⌜ FrameReady (now pixels) g frame (now line)
-        × (MaskedBy (now pixels) g (now masks) down right
-        × (Shaded shades (g .stored) (now table)
-        × ((longestRow ≤ length (now upper)) × ((longestRow ≤ length (now lower)) × Against (now cells) tolerance (samplesOf g))))) ⌝ }
-    ensures { λ r. ⌜ r ≡ met tolerance (quarterShade (shadesOf shades (g .stored)) g (now (pixels .entry)) frame (usValues (now (masks .entry))) down right) (now (cells .entry)) (samplesOf g) ⌝ }
-{
-    if shades.filled {
-        if down % pixel::UNIT == 0 {
-            if right % pixel::UNIT == 0 {
-                return compare_whole(
-                    pixels,
-                    g,
-                    frame,
-                    masks,
-                    down,
-                    right,
-                    shades,
-                    table,
-                    upper,
-                    line,
-                    cells,
-                    tolerance,
-                );
-            }
-        }
-    }
-    compare_blended(
-        pixels,
-        g,
-        frame,
-        masks,
-        down,
-        right,
-        shades,
-        table,
-        upper,
-        lower,
-        line,
-        cells,
-        tolerance,
-    )
-}
-
-// The same, by the moves of a shift.
-fn compare_moved(
     pixels: &[u8],
     g: Geometry,
     frame: usize,
@@ -309,23 +116,19 @@ fn compare_moved(
     cells: &[u8],
     tolerance: usize,
 ) -> Differing
-    requires { ⌜ FrameReady (now pixels) g frame (now line)
-        × (Masks (now pixels) g (now masks)
-        × (ShortMoves moves × (Shaded shades (g .stored) (now table)
-        × ((longestRow ≤ length (now upper)) × ((longestRow ≤ length (now lower)) × Against (now cells) tolerance (samplesOf g)))))) ⌝ }
-    ensures { λ r. ⌜ r ≡ met tolerance (maskedShade (shadesOf shades (g .stored)) g (now (pixels .entry)) frame (usValues (now (masks .entry))) moves) (now (cells .entry)) (samplesOf g) ⌝ }
+    requires { ⌜ LinesReady (now pixels) g frame shades (now table) (now upper) (now lower) (now line)
+        × (Masks (now pixels) g (now masks) × (ShortMoves moves × Against (now cells) tolerance (samplesOf g))) ⌝ }
+    ensures { λ r. ⌜ r
+        ≡ met tolerance (maskedShade (shadesOf shades (g .stored)) g (now (pixels .entry)) frame (usValues (now (masks .entry))) moves)
+        (now (cells .entry)) (samplesOf g) ⌝ }
 {
-    let vertical = moves.vertical;
-    let horizontal = moves.horizontal;
-    let down = pixel::offset_of(vertical);
-    let right = pixel::offset_of(horizontal);
-    compare_masked(
+    let way = lines::masked_way(pixels, g, masks, moves, shades.filled, lower);
+    compare_lines(
+        way,
         pixels,
         g,
         frame,
         masks,
-        down,
-        right,
         shades,
         table,
         upper,
@@ -353,22 +156,33 @@ fn compare_frame(
 ) -> Differing
     requires { ⌜ Table (now bytes) (now rows)
         × (IsPixels (nodesOf (now bytes)) (c .p)
-        × (FrameReady (valueAt (nodesOf (now bytes)) (c .p)) (c .g) frame (now line)
+        × (LinesReady (valueAt (nodesOf (now bytes)) (c .p)) (c .g) frame shades (now table) (now upper) (now lower) (now line)
         × (MasksReady (nodesOf (now bytes)) (valueAt (nodesOf (now bytes)) (c .p)) (c .g) masking
-        × (Shaded shades (c .g .stored) (now table)
-        × ((longestRow ≤ length (now upper))
-        × ((longestRow ≤ length (now lower)) × Against (now cells) tolerance (samplesOf (c .g)))))))) ⌝ }
-    ensures { λ r. ⌜ r ≡ met tolerance (shadeBy (nodesOf (now (bytes .entry))) (shadesOf shades (c .g .stored)) (c .g) (valueAt (nodesOf (now (bytes .entry))) (c .p)) frame masking) (now (cells .entry)) (samplesOf (c .g)) ⌝ }
+        × Against (now cells) tolerance (samplesOf (c .g))))) ⌝ }
+    ensures { λ r. ⌜ r
+        ≡ met tolerance (shadeBy (nodesOf (now (bytes .entry))) (shadesOf shades (c .g .stored)) (c .g)
+        (valueAt (nodesOf (now (bytes .entry))) (c .p)) frame masking) (now (cells .entry)) (samplesOf (c .g)) ⌝ }
 {
     let g = c.g;
     let pixels = frame::value_part(bytes, rows, c.p);
     match masking {
-        Masking::Native => {
-            compare_native(pixels, g, frame, shades, table, line, cells, tolerance)
-        }
+        Masking::Native => compare_lines(
+            Way::Native,
+            pixels,
+            g,
+            frame,
+            b"",
+            shades,
+            table,
+            upper,
+            lower,
+            line,
+            cells,
+            tolerance,
+        ),
         Masking::Average(k, m) => {
             let masks = node::value(bytes, rows, k);
-            compare_moved(
+            compare_masked(
                 pixels,
                 g,
                 frame,
@@ -385,7 +199,7 @@ fn compare_frame(
         }
         Masking::One(t, m) => {
             let one = [(t % 256) as u8, (t / 256 % 256) as u8];
-            compare_moved(
+            compare_masked(
                 pixels,
                 g,
                 frame,
@@ -400,7 +214,7 @@ fn compare_frame(
                 tolerance,
             )
         }
-        Masking::Lacks => Differing { first: 0, count: 0 },
+        Masking::Lacks => differences::none_off(),
     }
 }
 
@@ -415,14 +229,12 @@ fn compare_planned(
     cells: &[u8],
     tolerance: usize,
 ) -> Differing
-    requires { ⌜ Table (now bytes) (now rows)
-        × (IsObject (now bytes) n
-        × (IsScene (nodesOf (now bytes)) c
-        × (IsPlan (nodesOf (now bytes)) frame (c .g .stored) own
-        × ((1 ≤ frame) × ((frame ≤ n) × Against (now cells) tolerance (imageSize (nodesOf (now bytes)))))))) ⌝ }
-    ensures { λ r. ⌜ r ≡ along (isOff tolerance (pictureOf (nodesOf (now (bytes .entry))) frame .samples) (now (cells .entry))) 0 (imageSize (nodesOf (now (bytes .entry)))) noneOff ⌝ }
+    requires { ⌜ PlanReady (now bytes) (now rows) n c frame own × Against (now cells) tolerance (imageSize (nodesOf (now bytes))) ⌝ }
+    ensures { λ r. ⌜ r
+        ≡ along (isOff tolerance (pictureOf (nodesOf (now (bytes .entry))) frame .samples) (now (cells .entry))) 0
+        (imageSize (nodesOf (now (bytes .entry)))) noneOff ⌝ }
 {
-    let mut table: [u8; 131072] = [0; 131072];
+    let mut table: [u8; window::PLACES] = [0; window::PLACES];
     let mut upper: [u32; pixel::LONGEST] = [0; pixel::LONGEST];
     let mut lower: [u32; pixel::LONGEST] = [0; pixel::LONGEST];
     let mut line: [u8; 65535] = [0; 65535];
@@ -463,7 +275,9 @@ fn compare_picture(
 ) -> Differing
     requires { ⌜ Table (now bytes) (now rows)
         × (IsObject (now bytes) n × ((1 ≤ frame) × ((frame ≤ n) × Against (now cells) tolerance (imageSize (nodesOf (now bytes)))))) ⌝ }
-    ensures { λ r. ⌜ r ≡ along (isOff tolerance (pictureOf (nodesOf (now (bytes .entry))) frame .samples) (now (cells .entry))) 0 (imageSize (nodesOf (now (bytes .entry)))) noneOff ⌝ }
+    ensures { λ r. ⌜ r
+        ≡ along (isOff tolerance (pictureOf (nodesOf (now (bytes .entry))) frame .samples) (now (cells .entry))) 0
+        (imageSize (nodesOf (now (bytes .entry)))) noneOff ⌝ }
 {
     let scene = display::scene_of(bytes, rows, n);
     let own = display::plan_for(bytes, rows, scene, frame, n);

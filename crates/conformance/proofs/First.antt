@@ -1,4 +1,4 @@
--- What a clerk relies on: a data set is accepted exactly when every rule holds at every frame at which it is asked;
+-- What a verdict says: a data set is accepted exactly when every rule holds at every frame at which it is asked;
 -- otherwise the rule that is named is broken at the frame that is named, every earlier rule holds everywhere, and the named
 -- rule holds at every lower frame.
 use mathlib.Core.Path.{_≡_, refl, sym, _∙_, subst}

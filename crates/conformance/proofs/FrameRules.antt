@@ -12,7 +12,8 @@ use Rattle.value.specs.declared.Num.{Num}
 use Rattle.value.specs.declared.Num.the-variants.{Is, None}
 use Rattle.verdict.specs.Verdict.{perFrame}
 use Rattle.node.specs.Nodes.{Node, inside}
-use Rattle.node.specs.Find.{holds, ifPresent, orElse, find, holdsOr}
+use Rattle.node.specs.Find.{holds, ifPresent, orElse, find}
+use Rattle.node.specs.Contracts.{holdsOr}
 use Rattle.node.proofs.Walks.{members-end, members-next}
 use Rattle.element.specs.declared.Items.{Items}
 use Rattle.basics.specs.Tags
@@ -22,8 +23,8 @@ use Rattle.element.specs.Frames.{sharedItem, frameItem, frameItems}
 use Rattle.rules.specs.Frame.{atFrame, item27, item28, item29, item30, item37, rule27, rule28, rule29, rule30, rule37}
 use Rattle.rules.specs.Intensity.{isLutGroup, hasLinear, isLog, item39, rule39}
 use Rattle.rules.specs.All.{ruleList, ruleAt}
-use Rattle.intensity.specs.Contracts.{grade, gradeOn, agree, relationOf, tableOf, relationIn, tableIn}
-use Rattle.rules_frame.specs.Contracts.{groupTag, groupFits, groupIn, itemBy, itemGrades, itemRule}
+use Rattle.intensity.specs.Contracts.{grade, gradeOn, gradesAgree, relationOf, tableOf, relationIn, tableIn}
+use Rattle.rules_frame.specs.Contracts.{groupTag, groupFits, groupHolds, itemHolds, itemGrades, itemRule}
 
 -- What is asked of the items may be put in other words.
 at-same : (ns : List Node) (f : ℕ) (p q : ℕ → ℕ → Bool) → ((s i : ℕ) → p s i ≡ q s i) → atFrame ns f p ≡ atFrame ns f q
@@ -41,7 +42,7 @@ group-join None (Is s) p = refl
 group-join (Is g) b p = refl
 
 -- Rule 39 is what the grades of its two groups say.
-grades-by : (a b c d : Bool) → (a && (c && (not b || d))) ≡ agree (grade a b) (grade c d)
+grades-by : (a b c d : Bool) → (a && (c && (not b || d))) ≡ gradesAgree (grade a b) (grade c d)
 grades-by false b c d = refl
 grades-by true false false d = refl
 grades-by true true false d = refl
@@ -52,7 +53,7 @@ grades-by true true true true = refl
 
 grades-group : (a b : Num) (one log luts linear : ℕ → Bool)
     → (ifPresent a one && (ifPresent b luts && (not (holds a log) || holds b linear)))
-    ≡ agree (gradeOn a (λ p. grade (one p) (log p)) 1) (gradeOn b (λ g. grade (luts g) (linear g)) 1)
+    ≡ gradesAgree (gradeOn a (λ p. grade (one p) (log p)) 1) (gradeOn b (λ g. grade (luts g) (linear g)) 1)
 grades-group None None one log luts linear = refl
 grades-group None (Is g) one log luts linear = grades-by true false (luts g) (linear g)
 grades-group (Is p) None one log luts linear = grades-by (one p) (log p) true false
@@ -64,7 +65,7 @@ grade-join (Is g) b of = refl
 
 grades-join : (a b c d : Num) (one log luts linear : ℕ → Bool)
     → (ifPresent (orElse a b) one && (ifPresent (orElse c d) luts && (not (holds (orElse a b) log) || holds (orElse c d) linear)))
-    ≡ agree (gradeOn a (λ p. grade (one p) (log p)) (gradeOn b (λ p. grade (one p) (log p)) 1))
+    ≡ gradesAgree (gradeOn a (λ p. grade (one p) (log p)) (gradeOn b (λ p. grade (one p) (log p)) 1))
     (gradeOn c (λ g. grade (luts g) (linear g)) (gradeOn d (λ g. grade (luts g) (linear g)) 1))
 grades-join a b c d one log luts linear =
     rw (grade-join a b (λ p. grade (one p) (log p)), grade-join c d (λ g. grade (luts g) (linear g)))
@@ -72,7 +73,7 @@ grades-join a b c d one log luts linear =
 
 module _ (ns : List Node) (f : ℕ) where
   same27 : (s i : ℕ) → item27 ns s i ≡ itemRule ns 27 s i
-  unfolding itemRule itemBy
+  unfolding itemRule itemHolds
   same27 s i = refl
 
   asked27 : ruleAt ns 27 f ≡ atFrame ns f (itemRule ns 27)
@@ -80,7 +81,7 @@ module _ (ns : List Node) (f : ℕ) where
   asked27 = at-same ns f (item27 ns) (itemRule ns 27) same27
 
   same28 : (s i : ℕ) → item28 ns s i ≡ itemRule ns 28 s i
-  unfolding itemRule itemBy
+  unfolding itemRule itemHolds
   same28 s i = refl
 
   asked28 : ruleAt ns 28 f ≡ atFrame ns f (itemRule ns 28)
@@ -88,7 +89,7 @@ module _ (ns : List Node) (f : ℕ) where
   asked28 = at-same ns f (item28 ns) (itemRule ns 28) same28
 
   same29 : (s i : ℕ) → item29 ns s i ≡ itemRule ns 29 s i
-  unfolding itemRule itemBy item29 groupIn groupTag groupFits
+  unfolding itemRule itemHolds item29 groupHolds groupTag groupFits
   same29 s i = sym (group-join (find ns (groupTag 29) (inside ns i)) (find ns (groupTag 29) (inside ns s)) (groupFits ns 29))
 
   asked29 : ruleAt ns 29 f ≡ atFrame ns f (itemRule ns 29)
@@ -96,7 +97,7 @@ module _ (ns : List Node) (f : ℕ) where
   asked29 = at-same ns f (item29 ns) (itemRule ns 29) same29
 
   same30 : (s i : ℕ) → item30 ns s i ≡ itemRule ns 30 s i
-  unfolding itemRule itemBy item30 groupIn groupTag groupFits
+  unfolding itemRule itemHolds item30 groupHolds groupTag groupFits
   same30 s i = sym (group-join (find ns (groupTag 30) (inside ns i)) (find ns (groupTag 30) (inside ns s)) (groupFits ns 30))
 
   asked30 : ruleAt ns 30 f ≡ atFrame ns f (itemRule ns 30)
@@ -104,7 +105,7 @@ module _ (ns : List Node) (f : ℕ) where
   asked30 = at-same ns f (item30 ns) (itemRule ns 30) same30
 
   same37 : (s i : ℕ) → item37 ns s i ≡ itemRule ns 37 s i
-  unfolding itemRule itemBy item37 groupIn groupTag groupFits
+  unfolding itemRule itemHolds item37 groupHolds groupTag groupFits
   same37 s i = sym (group-join (find ns (groupTag 37) (inside ns i)) (find ns (groupTag 37) (inside ns s)) (groupFits ns 37))
 
   asked37 : ruleAt ns 37 f ≡ atFrame ns f (itemRule ns 37)

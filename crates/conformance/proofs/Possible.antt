@@ -17,8 +17,8 @@ use Rattle.dataset.specs.Answer.{answerOf}
 use Rattle.dataset.proofs.Laws.{answer-small, Small as SmallAnswer}
 use Rattle.value.specs.declared.Num.{Num}
 use Rattle.value.specs.declared.Num.the-variants.{Is, None}
-use Rattle.basics.specs.Limits.{mostRows, largest}
-use Rattle.verdict.specs.Verdict.{lastRule, lastFrame, perFrame, frameFits, fieldsFit, countFits, possible, writable}
+use Rattle.basics.specs.Limits.{mostRows, largest, lastFrame}
+use Rattle.verdict.specs.Verdict.{lastRule, perFrame, frameFits, fieldsFit, countFits, possible, writable}
 use Rattle.basics.proofs.Tests.{false-is-true, and-both, or-either}
 use Rattle.verdict.proofs.Bounds.{Small, possible-small}
 use Rattle.node.specs.Nodes.{Node, nodesOf}

@@ -1,4 +1,4 @@
--- How the judge's loops ask the rules. None of this is in document 01.
+-- How the judge's loops ask the rules. None of this is in the papers.
 use mathlib.Core.Path.{_≡_}
 use Prim.Native.Nat.{ℕ, _+_, _-_, _≤_}
 use mathlib.Core.List.{List}
@@ -19,9 +19,9 @@ abbrev pub noPart : SharedPart
 noPart = record { ok = true; relation = 1; table = 1 }
 
 -- The part of a per-frame rule in the shared item; any other rule asks nothing there.
-abbrev pub okFor : List Node → ℕ → Num → SharedPart
-okFor ns rule None = noPart
-okFor ns rule (Is s) = cond (perFrame rule) (sharedPart ns rule s) noPart
+abbrev pub partFor : List Node → ℕ → Num → SharedPart
+partFor ns rule None = noPart
+partFor ns rule (Is s) = cond (perFrame rule) (sharedPart ns rule s) noPart
 
 -- The number after that of the last rule.
 abbrev pub endRule : ℕ

@@ -3,7 +3,7 @@ ghost use mathlib.Core.Path.{_≡_};
 ghost use Prim.Native.Nat.{_+_, _-_, _*_, _≤_, _<_};
 ghost use mathlib.Core.Bool.{true, false};
 ghost use lib.ListN.{length, drop};
-ghost use Rattle.value.specs.Number.{numberOr0};
+ghost use Rattle.value.specs.Number.{integerLimit, numberOr0};
 ghost use Rattle.dataset.specs.Reading.{readingOf};
 ghost use Rattle.basics.specs.Fields.{Answers};
 ghost use Rattle.dataset.specs.Answer.{bufferOf};
@@ -15,7 +15,7 @@ ghost use Rattle.element.specs.Frames.{framesOf, sharedItem, frameItems};
 ghost use Rattle.element.specs.Contracts.{Along};
 ghost use Rattle.rules.specs.All.{ruleAt};
 ghost use Rattle.conformance.specs.Judging.{firstFrame, findingOf, judgeOf, verdictOf, fieldsOf};
-ghost use Rattle.conformance.specs.Contracts.{noPart, okFor, Asked, endFrame};
+ghost use Rattle.conformance.specs.Contracts.{noPart, partFor, Asked, endFrame};
 use dataset::ReadAnswer;
 use element::Items;
 use rules_frame::SharedPart;
@@ -54,9 +54,9 @@ fn no_part() -> SharedPart
 }
 
 // The part of a per-frame rule in the shared item, worked out once for the rule. Any other rule asks nothing there.
-fn shared_ok(bytes: &[u8], rows: &[u32], rule: usize, shared: Num) -> SharedPart
+fn part_for(bytes: &[u8], rows: &[u32], rule: usize, shared: Num) -> SharedPart
     requires { ⌜ Table (now bytes) (now rows) × Below (length (nodesOf (now bytes))) shared ⌝ }
-    ensures { λ r. ⌜ r ≡ okFor (nodesOf (now (bytes .entry))) rule shared ⌝ }
+    ensures { λ r. ⌜ r ≡ partFor (nodesOf (now (bytes .entry))) rule shared ⌝ }
 {
     match shared {
         Num::None => no_part(),
@@ -83,7 +83,7 @@ fn frame_holds(
     requires { ⌜ Table (now bytes) (now rows)
         × (Below (length (nodesOf (now bytes))) shared
         × ((shared ≡ sharedItem (nodesOf (now bytes)))
-        × ((part ≡ okFor (nodesOf (now bytes)) rule shared)
+        × ((part ≡ partFor (nodesOf (now bytes)) rule shared)
         × ((perFrame rule ≡ true)
         × ((1 ≤ frame) × Along (nodesOf (now bytes)) (drop (frame - 1) (frameItems (nodesOf (now bytes)))) items))))) ⌝ }
     ensures { λ r. ⌜ r ≡ ruleAt (nodesOf (now (bytes .entry))) rule frame ⌝ }
@@ -131,7 +131,7 @@ fn rule_holds(
     requires { ⌜ Table (now bytes) (now rows)
         × (Below (length (nodesOf (now bytes))) shared
         × ((shared ≡ sharedItem (nodesOf (now bytes)))
-        × ((part ≡ okFor (nodesOf (now bytes)) rule shared) × Asked (nodesOf (now bytes)) rule frame items))) ⌝ }
+        × ((part ≡ partFor (nodesOf (now bytes)) rule shared) × Asked (nodesOf (now bytes)) rule frame items))) ⌝ }
     ensures { λ r. ⌜ r ≡ ruleAt (nodesOf (now (bytes .entry))) rule frame ⌝ }
 {
     if verdict::is_per_frame(rule) {
@@ -144,12 +144,9 @@ fn rule_holds(
 // Number of Frames, or 0.
 fn frame_total(bytes: &[u8], rows: &[u32]) -> usize
     requires { ⌜ Table (now bytes) (now rows) ⌝ }
-    ensures { λ r. ⌜ (r ≡ numberOr0 (framesOf (nodesOf (now (bytes .entry))))) × (r < 100000000000) ⌝ }
+    ensures { λ r. ⌜ (r ≡ numberOr0 (framesOf (nodesOf (now (bytes .entry))))) × (r < integerLimit) ⌝ }
 {
-    match element::frame_count(bytes, rows) {
-        Num::Is(n) => n,
-        Num::None => 0,
-    }
+    value::number_or_0(element::frame_count(bytes, rows))
 }
 
 // The frames at which a rule is asked: the first, and the one after the last.
@@ -160,8 +157,8 @@ fn first_frame(rule: usize) -> usize
 }
 
 fn end_frame(rule: usize, n: usize) -> usize
-    requires { ⌜ n < 100000000000 ⌝ }
-    ensures { λ r. ⌜ (r ≡ endFrame n rule) × (r ≤ 100000000000) ⌝ }
+    requires { ⌜ n < integerLimit ⌝ }
+    ensures { λ r. ⌜ (r ≡ endFrame n rule) × (r ≤ integerLimit) ⌝ }
 {
     if verdict::is_per_frame(rule) {
         n + 1
@@ -180,7 +177,7 @@ fn first_broken(bytes: &[u8], rows: &[u32]) -> Finding
     let items = element::frame_items(bytes, rows);
     let found = 'judge: loop {
         for rule in 1..END_RULE {
-            let part = shared_ok(bytes, rows, rule, shared);
+            let part = part_for(bytes, rows, rule, shared);
             let first = first_frame(rule);
             let end = end_frame(rule, n);
             let mut left = items;

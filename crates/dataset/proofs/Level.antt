@@ -15,10 +15,11 @@ use Rattle.dataset.specs.declared.Head.the-variants as heads
 use Rattle.dataset.specs.declared.Walk.{Walk}
 use Rattle.dataset.specs.declared.Walk.the-variants as walk
 use Rattle.dataset.specs.declared.Leaf.{Leaf}
+use Rattle.basics.specs.Vr.{SQ}
 use Rattle.dataset.specs.Header.{moved}
-use Rattle.dataset.specs.Reading.{Row, row, Run, done, refused, onHead, onRun, level, valueRun, itemsAt}
+use Rattle.dataset.specs.Reading.{Row, row, Run, done, refused, onHead, onRun, level, valueRun}
 use Rattle.dataset.specs.Answer.{flat, width}
-use Rattle.dataset.specs.Contracts.{Within, RunWithin, Walked, Replaced, LeafWalked}
+use Rattle.dataset.specs.Contracts.{Within, RunWithin, Walked, Replaced, LeafWalked, itemsAt}
 use Rattle.dataset.proofs.Buffer.{length-flat, flat-append, sets-append, sets-over, row-over}
 
 -- ---- A header and a walk, once it is known which they are
@@ -323,17 +324,17 @@ module _ (head : ℕ → ℕ → Head) (inside : ℕ → ℕ → Cursor → Run)
 
 -- ---- The value of an element
 
-pub value-plain : (levels : ℕ) (s : List ℕ) (first vr : ℕ) (v : Cursor) → (vr ≡ 0x5351 → ⊥)
+pub value-plain : (levels : ℕ) (s : List ℕ) (first vr : ℕ) (v : Cursor) → (vr ≡ SQ → ⊥)
     → valueRun levels s first vr v ≡ done (v .end) (v .end) []
 unfolding valueRun
 value-plain zero s first vr v e = refl
-value-plain (suc levels) s first vr v e = rw (ne-eqb vr 0x5351 e)
+value-plain (suc levels) s first vr v e = rw (ne-eqb vr SQ e)
 
-pub value-items : (levels : ℕ) (s : List ℕ) (first vr : ℕ) (v : Cursor) → (levels ≡ 0 → ⊥) → vr ≡ 0x5351
+pub value-items : (levels : ℕ) (s : List ℕ) (first vr : ℕ) (v : Cursor) → (levels ≡ 0 → ⊥) → vr ≡ SQ
     → valueRun levels s first vr v ≡ itemsAt (levels - 1) s first v
 unfolding valueRun
 value-items zero s first vr v n e = absurd (n refl)
-value-items (suc levels) s first vr v n e = rw (eq-eqb vr 0x5351 e, sub-one (suc levels))
+value-items (suc levels) s first vr v n e = rw (eq-eqb vr SQ e, sub-one (suc levels))
 
 -- A value without rows.
 pub leaf : (o : Run) (v : Cursor) (first : ℕ) (buffer : List ℕ) → v .at ≤ v .end → o ≡ done (v .end) (v .end) []

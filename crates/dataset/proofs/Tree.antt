@@ -15,9 +15,11 @@ use Rattle.dataset.specs.declared.Head.{Head}
 use Rattle.dataset.specs.declared.Head.the-variants as head
 use Rattle.basics.specs.Vr.{formOf, SQ}
 use Rattle.basics.specs.Bytes.{le32}
-use Rattle.dataset.specs.Header.{when, itemTag, cursor, moved, headerBy, delimiterBy, nestedBy, definedBy, longBy, typedAt, taggedAt}
+use Rattle.dataset.specs.Header.{when, cursor, moved, headerBy, delimiterBy, nestedBy, definedBy, longBy, typedAt, taggedAt}
+use Rattle.basics.specs.Tags.{itemTag}
 use Rattle.dataset.specs.Header.{sizedBy, memberAt, elementAt, itemAt}
-use Rattle.dataset.specs.Reading.{Row, row, Run, done, refused, onHead, onRun, level, valueRun, elementsAt, itemsAt, Reading, depths}
+use Rattle.dataset.specs.Reading.{Row, row, Run, done, refused, onHead, onRun, level, valueRun, elementsAt, Reading, depths}
+use Rattle.dataset.specs.Contracts.{itemsAt}
 use Rattle.dataset.specs.Reading.{tooLarge, refusedAt, read, whole, readingOf}
 use Rattle.basics.specs.Limits.{largest, mostRows}
 use Rattle.dataset.proofs.Levels.{sequence-level}

@@ -1,5 +1,5 @@
 -- What the functions inside `read` promise in terms of the definition of reading: bounds of a header, and what a walk along one level
--- answers and writes. None of this is in document 01.
+-- answers and writes. None of this is in the papers.
 use mathlib.Core.Path.{_≡_}
 use Prim.Native.Nat.{ℕ, _+_, _*_, _≤_, _<_}
 use mathlib.Core.List.{List}
@@ -12,9 +12,13 @@ use Rattle.dataset.specs.declared.Walk.{Walk}
 use Rattle.dataset.specs.declared.Walk.the-variants as walk
 use Rattle.dataset.specs.declared.Leaf.{Leaf}
 use Rattle.dataset.specs.declared.Leaf.the-variants as leaf
-use Rattle.dataset.specs.Reading.{Run, done, refused, depths}
+use Rattle.dataset.specs.Reading.{Run, done, refused, depths, itemsBy, elementsAt}
 use Rattle.basics.specs.Limits.{largest}
 use Rattle.dataset.specs.Answer.{flat, width}
+
+-- A sequence, item by item.
+abbrev pub itemsAt : ℕ → List ℕ → ℕ → Cursor → Run
+itemsAt levels s first c = itemsBy (elementsAt levels s) levels s first c
 
 -- A header moves the cursor by at least 8 bytes and stays within the known end; a refusal has one of the codes 1 to 6.
 abbrev pub Within : Cursor → Head → Type 0

@@ -12,26 +12,18 @@ use Rattle.dataset.specs.declared.Cursor.{Cursor}
 use Rattle.dataset.specs.declared.Head.{Head}
 use Rattle.dataset.specs.declared.Head.the-variants.{Header, End, Refused}
 use Rattle.basics.specs.Bytes.{le16, le32, tagAt, vrAt}
+use Rattle.basics.specs.Tags.{itemTag, itemDelimiter, sequenceDelimiter, itemGroup}
 use Rattle.basics.specs.Vr.{formOf, SQ}
 
--- The first if the test holds, otherwise the second.
+-- The first if the test holds, otherwise the second. It is `cond` for heads, but stays folded until a proof unfolds it, so that a search
+-- can match on each check.
 unfoldable pub when : Bool → Head → Head → Head
 when true a b = a
 when false a b = b
 
--- ---- Tags and lengths of their own
-
+-- The length that is undefined.
 abbrev pub undefined : ℕ
 undefined = 0xFFFF_FFFF
-
-abbrev pub itemTag : ℕ
-itemTag = 0xFFFE_E000
-
-abbrev pub itemDelimiter : ℕ
-itemDelimiter = 0xFFFE_E00D
-
-abbrev pub sequenceDelimiter : ℕ
-sequenceDelimiter = 0xFFFE_E0DD
 
 -- ---- The checks
 
@@ -90,7 +82,7 @@ typedAt s c tag vr form short levels =
 -- the first; `levels` is the number of levels permitted below it.
 unfoldable pub taggedAt : List ℕ → Cursor → ℕ → ℕ → ℕ → Head
 taggedAt s c tag least levels =
-    when (eqb (tag / 65536) 0xFFFE) (delimiterBy c tag itemDelimiter (le32 s (c .at + 4)))
+    when (eqb (tag / 65536) itemGroup) (delimiterBy c tag itemDelimiter (le32 s (c .at + 4)))
     (when (ltb tag least) (Refused 2)
     (typedAt s c tag (vrAt s (c .at + 4)) (formOf (vrAt s (c .at + 4))) (le16 s (c .at + 6)) levels))
 

@@ -82,9 +82,6 @@ valueRun (suc levels) s first vr value =
 abbrev pub elementsAt : ℕ → List ℕ → ℕ → Cursor → Run
 elementsAt levels s first c = elementsBy (valueRun levels s) levels s first c
 
-abbrev pub itemsAt : ℕ → List ℕ → ℕ → Cursor → Run
-itemsAt levels s first c = itemsBy (elementsAt levels s) levels s first c
-
 -- ---- The whole data set
 
 -- Too large, refused, or read.

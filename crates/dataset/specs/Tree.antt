@@ -5,7 +5,7 @@ use Prim.Native.Nat.{ℕ, _+_, _*_, _≤_}
 use mathlib.Core.List.{List, []}
 use lib.ListN.{getD}
 use Rattle.basics.specs.Vr.{formOf, SQ}
-use Rattle.dataset.specs.Header.{itemTag}
+use Rattle.basics.specs.Tags.{itemTag}
 use Rattle.dataset.specs.Reading.{Row, row, Reading, tooLarge, refusedAt, read, readingOf, depths}
 
 -- The rows of a data set that reads well; otherwise none.

@@ -1,5 +1,5 @@
 // The reader of a data set in Explicit VR Little Endian: a row for each element and item, or the first refusal.
-// specs/ says what a reading is, in the order of the paper; `read`, at the end, is the public call.
+// specs/ says what a reading is, in the order of the paper; `count` and `read`, at the end, are the public calls.
 ghost use mathlib.Core.Path.{_≡_};
 ghost use Prim.Native.Nat.{_+_, _-_, _*_, _≤_, _<_};
 ghost use mathlib.Core.List.{[], _∷_};
@@ -7,13 +7,14 @@ ghost use lib.ListN.{length};
 ghost use lib.Seq.{sets};
 ghost use Rattle.dataset.specs.Header.{moved, delimiterBy, nestedBy, definedBy, longBy, typedAt, taggedAt, sizedBy, memberAt};
 ghost use Rattle.dataset.specs.Header.{elementAt, itemAt};
-ghost use Rattle.dataset.specs.Reading.{depths, elementsAt, itemsAt, readingOf, row};
+ghost use Rattle.dataset.specs.Reading.{depths, elementsAt, readingOf, row};
 ghost use Rattle.basics.specs.Limits.{largest};
 ghost use Rattle.basics.specs.Fields.{Answers};
 ghost use Rattle.dataset.specs.Answer.{width, answerOf, countOf, bufferOf, flat, fieldsOf};
-ghost use Rattle.dataset.specs.Contracts.{Within, Walked, LeafWalked, Ready};
+ghost use Rattle.dataset.specs.Contracts.{Within, Walked, LeafWalked, Ready, itemsAt};
 use basics::LARGEST;
 use basics::tag_at;
+use basics::tags;
 use basics::u16_at;
 use basics::u32_at;
 use basics::vr_at;
@@ -29,9 +30,9 @@ pub const DEPTH: usize = 2;
 
 pub const OFFSET: usize = 3;
 
-pub const LENGTH: usize = 4;
+pub const SIZE: usize = 4;
 
-pub const BELOW: usize = 5;
+pub const DESCENDANTS: usize = 5;
 
 pub const PARENT: usize = 6;
 
@@ -39,12 +40,6 @@ pub const PARENT: usize = 6;
 pub const DEPTHS: usize = 8;
 
 const UNDEFINED: usize = 0xFFFF_FFFF;
-
-const ITEM: usize = 0xFFFE_E000;
-
-const ITEM_DELIMITER: usize = 0xFFFE_E00D;
-
-const SEQUENCE_DELIMITER: usize = 0xFFFE_E0DD;
 
 // An offset in the data set, the innermost known end, and whether a delimiter closes what is read here.
 pub struct Cursor {
@@ -211,8 +206,8 @@ impl Cursor {
         ensures { λ r. ⌜ r ≡ taggedAt (now (s .entry)) self tag least levels ⌝ }
         ensures { λ r. ⌜ Within self r ⌝ }
     {
-        if tag / 65536 == 0xFFFE {
-            return self.delimiter(tag, ITEM_DELIMITER, u32_at(s, self.at + 4));
+        if tag / 65536 == tags::ITEM_GROUP {
+            return self.delimiter(tag, tags::ITEM_DELIMITER, u32_at(s, self.at + 4));
         }
         if tag < least {
             return Head::Refused(2);
@@ -233,9 +228,9 @@ impl Cursor {
                 end: self.end,
                 delimited: true,
             };
-            return Head::Header(ITEM, 0, value);
+            return Head::Header(tags::ITEM, 0, value);
         }
-        self.defined(ITEM, 0, self.at + 8, len, 0)
+        self.defined(tags::ITEM, 0, self.at + 8, len, 0)
     }
 
     // Checks 2 and 7 of a header among items with the tag.
@@ -244,14 +239,14 @@ impl Cursor {
         ensures { λ r. ⌜ r ≡ memberAt (now (s .entry)) self tag ⌝ }
         ensures { λ r. ⌜ Within self r ⌝ }
     {
-        if tag == ITEM {
+        if tag == tags::ITEM {
             return self.sized(u32_at(s, self.at + 4));
         }
-        self.delimiter(tag, SEQUENCE_DELIMITER, u32_at(s, self.at + 4))
+        self.delimiter(tag, tags::SEQUENCE_DELIMITER, u32_at(s, self.at + 4))
     }
 
     // What is at the cursor among elements; tags below `least` are refused, and `levels` more levels are permitted.
-    pub fn element(self, s: &[u8], least: usize, levels: usize) -> Head
+    fn element(self, s: &[u8], least: usize, levels: usize) -> Head
         requires { ⌜ (self .at ≤ self .end) × (self .end ≤ length (now s)) ⌝ }
         ensures { λ r. ⌜ r ≡ elementAt (now (s .entry)) self least levels ⌝ }
         ensures { λ r. ⌜ Within self r ⌝ }
@@ -314,8 +309,8 @@ fn put_row(
         rows[i + VR] = vr as u32;
         rows[i + DEPTH] = (DEPTHS - levels) as u32;
         rows[i + OFFSET] = start as u32;
-        rows[i + LENGTH] = (stop - start) as u32;
-        rows[i + BELOW] = (m - n - 1) as u32;
+        rows[i + SIZE] = (stop - start) as u32;
+        rows[i + DESCENDANTS] = (m - n - 1) as u32;
         rows[i + PARENT] = first as u32;
     }
 }
@@ -462,7 +457,7 @@ pub fn count(bytes: &[u8]) -> ReadAnswer
     }
 }
 
-// Reads a data set into rows of seven numbers. A refusal leaves the buffer as it was: the first walk gets no buffer and only counts, and
+// Reads a data set into rows. A refusal leaves the buffer as it was: the first walk gets no buffer and only counts, and
 // the second writes the rows once they are known to fit.
 pub fn read(bytes: &[u8], rows: &mut [u32]) -> ReadAnswer
     ensures { λ r. ⌜ Answers fieldsOf r (answerOf (readingOf (now (bytes .entry))) (now (rows .entry))) ⌝ }

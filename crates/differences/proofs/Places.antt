@@ -8,7 +8,7 @@ use native.Mathlib.Omega.{arith}
 use lib.ListN.{length, getD}
 use lib.Dec.{leb, ltb, eqb}
 use borrow.Author.Tests.{le-leb, lt-leb, lt-ltb, le-ltb, eq-eqb, ne-eqb, leb-true, leb-false}
-use Rattle.lines.specs.Contracts.{upTo}
+use Rattle.basics.specs.Lists.{upTo}
 use Rattle.lines.proofs.Lists.{upTo-length, upTo-at}
 use Rattle.differences.specs.declared.Differing.{Differing}
 use Rattle.differences.specs.Differences.{within, isOff, howMany, firstOff}

@@ -5,12 +5,19 @@ ghost use mathlib.Core.Bool.{not};
 ghost use Prim.Native.Nat.{_+_, _≤_, _<_};
 ghost use lib.ListN.{length, getD};
 ghost use Rattle.differences.specs.Differences.{within};
-ghost use Rattle.differences.specs.Contracts.{seen, along, LineOf};
+ghost use Rattle.differences.specs.Contracts.{seen, along, noneOff, LineOf};
 
 // How many cells were off so far, and the first of them; 0 where none was.
 pub struct Differing {
     pub first: usize,
     pub count: usize,
+}
+
+// Nothing off yet.
+pub fn none_off() -> Differing
+    ensures { λ r. ⌜ r ≡ noneOff ⌝ }
+{
+    Differing { first: 0, count: 0 }
 }
 
 // Two levels are not within the tolerance of each other.
@@ -58,14 +65,16 @@ pub fn compare_line(
     sofar: Differing,
 ) -> Differing
     requires { ⌜ LineOf (now line) (now cells) at tolerance sofar ⌝ }
-    ensures { λ r. ⌜ r ≡ along (λ k. not (within tolerance (getD (now (line .entry)) k 0) (getD (now (cells .entry)) (at + k) 0))) at (length (now (line .entry))) sofar ⌝ }
+    ensures { λ r. ⌜ r
+        ≡ along (λ k. not (within tolerance (getD (now (line .entry)) k 0) (getD (now (cells .entry)) (at + k) 0))) at
+        (length (now (line .entry))) sofar ⌝ }
 {
-    let mut now = sofar;
+    let mut found = sofar;
     for k in 0..line.len() {
         let place = at + k;
         let off = is_off(wide(line[k]), wide(cells[place]), tolerance);
-        let next = look(off, place, now);
-        now = next;
+        let next = look(off, place, found);
+        found = next;
     }
-    now
+    found
 }

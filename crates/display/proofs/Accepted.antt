@@ -12,10 +12,10 @@ use Rattle.element.specs.Elements.{usIn}
 use Rattle.element.specs.Frames.{framesOf}
 use Rattle.pixel.specs.declared.Geometry.{Geometry}
 use Rattle.pixel.specs.Pixel.{isFrame}
+use Rattle.pixel.specs.Contracts.{Shaped}
 use Rattle.window.specs.declared.Window.{Window}
 use Rattle.window.specs.Contracts.{Drawable}
-use Rattle.steps.specs.Steps.{geometryOf, pixelsOf, windowFor, inverseOf, maskFor}
-pub use Rattle.display.specs.Contracts.{AllWithin, SoundMask, Gives}
+use Rattle.steps.specs.Steps.{geometryOf, pixelsOf, windowFor, inverseOf}
 
 -- A US of the root is a number of two bytes: so it is where the nodes hold bytes.
 abbrev pub SmallRoot : List Node → Type 0
@@ -39,16 +39,23 @@ pub record Object (ns : List Node) : Type 0 where
   pub columns-high : g .columns ≤ 65535
   pub v : List ℕ
   pub pixels : pixelsOf ns ≡ some v
-  pub whole : (k : ℕ) → 1 ≤ k → k ≤ n → isFrame g v k ≡ true
+  pub inside : (k : ℕ) → 1 ≤ k → k ≤ n → isFrame g v k ≡ true
   pub inverse : Bool
   pub photometric : inverseOf ns ≡ some inverse
 
 -- The window of frame f.
-pub record Windowed (ns : List Node) (f stored : ℕ) : Type 0 where
+pub record GivesWindow (ns : List Node) (f stored : ℕ) : Type 0 where
   pub w : Window
   pub window : windowFor ns f stored ≡ some w
   pub drawable : Drawable w
 
--- What masks frame f, of n frames.
-abbrev pub Masking : List Node → ℕ → ℕ → Type 0
-Masking ns f n = Gives n (maskFor ns f)
+pub shape-of : {ns : List Node} (o : Object ns) → Shaped (o .g)
+shape-of o = record {
+  width = o .width;
+  stored-some = o .stored-low;
+  stored-most = o .stored-high;
+  rows-some = o .rows-low;
+  rows-most = o .rows-high;
+  columns-some = o .columns-low;
+  columns-most = o .columns-high;
+}

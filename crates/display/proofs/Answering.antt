@@ -13,8 +13,8 @@ use Rattle.value.specs.Number.{isNumber}
 use Rattle.value.specs.Contracts.{SizeBelow}
 use Rattle.shift.specs.declared.Shift.{Shift}
 use Rattle.shift.specs.declared.Moves.{Moves}
-use Rattle.shift.specs.Shift.{largestMove, isShort, isShiftOf, movesOf, shortMovesOf}
-use Rattle.shift.specs.Contracts.{tooFar}
+use Rattle.shift.specs.Shift.{largestMove, isShort, isShiftOf, movesOf}
+use Rattle.shift.specs.Contracts.{tooFar, shortMovesOf}
 use Rattle.shift.proofs.Laws.{moves-short}
 use Rattle.node.specs.Nodes.{Node}
 use Rattle.steps.specs.Given.{check, then}
@@ -35,7 +35,11 @@ short-is signed.None e h = e
 
 is-shift : (s : Shift) → Short (movesOf s) → isShiftOf s ≡ true
 unfolding isShiftOf
-is-shift s h = rw (short-is (movesOf s .vertical) (h .0) (h .1 .1 .0), short-is (movesOf s .horizontal) (h .1 .0) (h .1 .1 .1))
+is-shift s h =
+    rw (
+      short-is (movesOf s .vertical) (h .vertical) (h .sizes .vertical),
+      short-is (movesOf s .horizontal) (h .horizontal) (h .sizes .horizontal),
+    )
 
 -- The short moves of the shift that a step gave are the step's moves.
 checked-moves : (t : Bool) (s : Shift) (m : Moves) → check t (some (movesOf s)) ≡ some m → Short m

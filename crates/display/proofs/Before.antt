@@ -54,7 +54,7 @@ use Rattle.steps.proofs.Laws.{to-picture}
 use Rattle.display.proofs.Small.{us-in-small}
 use Rattle.display.proofs.Objects.{object, windowed}
 use Rattle.display.proofs.Masks as applying
-use Rattle.display.proofs.Masks.{Among, every-at, Applies, nothing, applies, GivesShift, shift-by, ranges, masking}
+use Rattle.display.proofs.Masks.{Among, every-at, Applies, nothing, applies, GivesShift, group-each, shift-by, ranges, masking}
 use Rattle.display.proofs.Rules.{r31, r36}
 use Rattle.display.proofs.Lacking.{nothing-lacks}
 
@@ -81,9 +81,9 @@ module _ (ns : List Node) where
   unfolding rule35Before rule35
   kept-35 = every-more (maskItems ns) (shiftFitted ns) (shiftFits ns) fits
 
-  item : (j : ℕ) → wasShiftItem ns j ≡ true → isShiftItem ns j ≡ true
+  item-now : (j : ℕ) → wasShiftItem ns j ≡ true → isShiftItem ns j ≡ true
   unfolding wasShiftItem isShiftItem
-  item j e =
+  item-now j e =
       let a = and-both (hasId ns j) _ e in
       rw (a .0) (holds-more (findVr ns Tags.MaskSubPixelShift FL (inside ns j)) _ _
       (λ k w. as-item (valueAt ns k) ∙ whole-shift (valueAt ns k) w) (a .1))
@@ -94,7 +94,7 @@ module _ (ns : List Node) where
       let a = and-both (eqb (nodeAt ns g .vr) SQ) _ e in
       let b = and-both (leb 1 (length (inside ns g))) _ (a .1) in
       let c = and-both (every (wasShiftItem ns) (inside ns g)) _ (b .1) in
-      rw (a .0, b .0, every-more (inside ns g) (wasShiftItem ns) (isShiftItem ns) item (c .0)) (c .1)
+      rw (a .0, b .0, every-more (inside ns g) (wasShiftItem ns) (isShiftItem ns) item-now (c .0)) (c .1)
 
   kept-37 : (f : ℕ) → rule37Before ns f ≡ true → rule37 ns f ≡ true
   unfolding rule37Before rule37 item37Before item37
@@ -120,9 +120,9 @@ module _ (ns : List Node) where
 -- ---- Steps
 
 -- A mask of whole moves, in quarters.
-abbrev inQuarters : Mask → Mask
-inQuarters native = native
-inQuarters (masked ks m) = masked ks (movesInQuarters m)
+abbrev maskInQuarters : Mask → Mask
+maskInQuarters native = native
+maskInQuarters (masked ks m) = masked ks (movesInQuarters m)
 
 module _ (ns : List Node) (f j : ℕ) where
   moves-now : (m : Moves) → movesBefore ns f j ≡ some m → movesFor ns f j ≡ some (movesInQuarters m)
@@ -135,26 +135,26 @@ module _ (ns : List Node) (f j : ℕ) where
       rw (a .1 .0, whole-moves (a .0) (c .0) (c .1), whole-numbers (wholeMovesOf (a .0)) (c .0) (c .1), d)
 
   masked-now : (ks : List ℕ) (m : Mask) → then (movesBefore ns f j) (λ x. some (masked ks x)) ≡ some m
-      → then (movesFor ns f j) (λ x. some (masked ks x)) ≡ some (inQuarters m)
+      → then (movesFor ns f j) (λ x. some (masked ks x)) ≡ some (maskInQuarters m)
   masked-now ks m e =
       let a = then-some (movesBefore ns f j) _ e in
       let d : masked ks (a .0) ≡ m = cc (a .1 .1) in
-      rw (moves-now (a .0) (a .1 .0)) (ap some (ap inQuarters d))
+      rw (moves-now (a .0) (a .1 .0)) (ap some (ap maskInQuarters d))
 
-  mask-now : (m : Mask) → maskByBefore ns f j ≡ some m → maskBy ns f j ≡ some (inQuarters m)
+  mask-now : (m : Mask) → maskByBefore ns f j ≡ some m → maskBy ns f j ≡ some (maskInQuarters m)
   unfolding maskByBefore maskBy
   mask-now m = go (operationIs ns (ascii "NONE") j) (operationIs ns (ascii "AVG_SUB") j) (operationIs ns (ascii "TID") j)
     where
-      tid : (o : Num) → onTidBefore ns f j o ≡ some m → onTid ns f j o ≡ some (inQuarters m)
-      tid None e = let d : native ≡ m = cc in ap some (ap inQuarters d)
+      tid : (o : Num) → onTidBefore ns f j o ≡ some m → onTid ns f j o ≡ some (maskInQuarters m)
+      tid None e = let d : native ≡ m = cc in ap some (ap maskInQuarters d)
       tid (Is k) e = masked-now (k ∷ []) m e
 
       go : (a b c : Bool)
           → cond a (some native) (cond b (then (averageFrames ns j) (λ ks. then (movesBefore ns f j) (λ x. some (masked ks x))))
           (cond c (then (tidFrame ns f j) (onTidBefore ns f j)) none)) ≡ some m
           → cond a (some native) (cond b (then (averageFrames ns j) (λ ks. then (movesFor ns f j) (λ x. some (masked ks x))))
-          (cond c (then (tidFrame ns f j) (onTid ns f j)) none)) ≡ some (inQuarters m)
-      go true b c e = let d : native ≡ m = cc in ap some (ap inQuarters d)
+          (cond c (then (tidFrame ns f j) (onTid ns f j)) none)) ≡ some (maskInQuarters m)
+      go true b c e = let d : native ≡ m = cc in ap some (ap maskInQuarters d)
       go false true c e =
           let a = then-some (averageFrames ns j) _ e in
           rw (a .1 .0) (masked-now (a .0) m (a .1 .1))
@@ -163,15 +163,15 @@ module _ (ns : List Node) (f j : ℕ) where
           rw (a .1 .0) (tid (a .0) (a .1 .1))
       go false false false e = absurd (never e)
 
-mask-for-now : (ns : List Node) (f : ℕ) (m : Mask) → maskForBefore ns f ≡ some m → maskFor ns f ≡ some (inQuarters m)
+mask-for-now : (ns : List Node) (f : ℕ) (m : Mask) → maskForBefore ns f ≡ some m → maskFor ns f ≡ some (maskInQuarters m)
 unfolding maskForBefore maskFor
 mask-for-now ns f m e =
     let a = then-some (applyingTo ns f) _ e in
-    rw (a .1 .0) (on (a .0) (a .1 .1))
+    rw (a .1 .0) (applied (a .0) (a .1 .1))
   where
-    on : (x : Applying) → maskOnBefore ns f x ≡ some m → maskOn ns f x ≡ some (inQuarters m)
-    on Nothing e = let d : native ≡ m = cc in ap some (ap inQuarters d)
-    on (Item j) e = mask-now ns f j m e
+    applied : (x : Applying) → maskOnBefore ns f x ≡ some m → maskOn ns f x ≡ some (maskInQuarters m)
+    applied Nothing e = let d : native ≡ m = cc in ap some (ap maskInQuarters d)
+    applied (Item j) e = mask-now ns f j m e
 
 -- Cell for cell.
 cell-same : (g : Geometry) (v : List ℕ) (f : ℕ) (ks : List ℕ) (m : Moves) (w : Window) (inverse : Bool) (i : ℕ) → i < samplesOf g
@@ -184,7 +184,7 @@ cell-same g v f ks m w inverse i inside = rw (
 )
 
 picture-same : (g : Geometry) (v : List ℕ) (f : ℕ) (w : Window) (inverse : Bool) (m : Mask)
-    → pictureBefore g v f w inverse m ≡ pictureBy g v f w inverse (inQuarters m)
+    → pictureBefore g v f w inverse m ≡ pictureBy g v f w inverse (maskInQuarters m)
 unfolding pictureBefore pictureBy
 picture-same g v f w inverse native = refl
 picture-same g v f w inverse (masked ks m) = rw (collect-same (maskedCellBefore g v f ks m w inverse)
@@ -200,7 +200,7 @@ module _ (ns : List Node) (f : ℕ) (g : Geometry) (v : List ℕ) (w : Window) (
 
   same-steps : (m : Mask) → maskForBefore ns f ≡ some m → stepsBefore ns f ≡ stepsOf ns f
   same-steps m e = to-before m e ∙ picture-same g v f w inverse m ∙
-      sym (to-picture ns f g v w inverse isG isV frame isW isI (inQuarters m) (mask-for-now ns f m e))
+      sym (to-picture ns f g v w inverse isG isV frame isW isI (maskInQuarters m) (mask-for-now ns f m e))
 
 -- Where the steps of whole pixels give a picture, for any data set, those of quarters give the same.
 pub same-pictures : SamePictures
@@ -237,12 +237,9 @@ module _ (ns : List Node) where
     (checked _ _ (eq-eqb _ _ (shift-length (valueAt ns x) (whole-shift (valueAt ns x) e))), whole-frame (valueAt ns x) e),
   )
 
-  group-items : (g : ℕ) → wasShiftGroup ns g ≡ true → every (wasShiftItem ns) (inside ns g) ≡ true
+  was-items : (g : ℕ) → wasShiftGroup ns g ≡ true → every (wasShiftItem ns) (inside ns g) ≡ true
   unfolding wasShiftGroup
-  group-items g e =
-      let a = and-both (eqb (nodeAt ns g .vr) SQ) _ e in
-      let b = and-both (leb 1 (length (inside ns g))) _ (a .1) in
-      and-both (every (wasShiftItem ns) (inside ns g)) _ (b .1) .0
+  was-items g e = group-each ns g (wasShiftItem ns) _ e
 
   shift-whole : (f j : ℕ) → rule36 ns ≡ true → rule37Before ns f ≡ true → Among j (maskItems ns) → shiftFitted ns j ≡ true
       → GivesShift isWholeShiftOf (shiftFor ns f j)
@@ -250,7 +247,7 @@ module _ (ns : List Node) where
   shift-whole f j r e m w =
       shift-by ns isWholeShiftOf j (item-whole (find ns Tags.MaskSubPixelShift (inside ns j)) w) (wasShiftGroup ns) (group ns)
       (λ g k h a. frame-whole (findVr ns Tags.MaskSubPixelShift FL (inside ns k))
-      (and-both (hasId ns k) _ (every-at (wasShiftItem ns) a (group-items g h)) .1)) f r e m
+      (and-both (hasId ns k) _ (every-at (wasShiftItem ns) a (was-items g h)) .1)) f r e m
 
   moves-before : (f j : ℕ) → GivesShift isWholeShiftOf (shiftFor ns f j) → (m : Moves) × (movesBefore ns f j ≡ some m)
   unfolding movesBefore
@@ -289,30 +286,31 @@ module _ (ns : List Node) where
       go false false false e = absurd (never e)
 
 module _ (ns : List Node) (ok : AcceptedBefore ns) (n : ℕ) (count : framesOf ns ≡ Is n) (f : ℕ) (low : 1 ≤ f) (high : f ≤ n) where
-  r35 : rule35Before ns ≡ true
+  r35-before : rule35Before ns ≡ true
   unfolding ruleBefore perFrame firstFrame frameCount
-  r35 = ok 35 (omega arith) (omega arith) 0 (omega arith) (omega arith)
+  r35-before = ok 35 (omega arith) (omega arith) 0 (omega arith) (omega arith)
 
-  r37 : rule37Before ns f ≡ true
+  r37-before : rule37Before ns f ≡ true
   unfolding ruleBefore perFrame firstFrame frameCount
-  r37 = ok 37 (omega arith) (omega arith) f low (rw count (omega arith))
+  r37-before = ok 37 (omega arith) (omega arith) f low (rw count (omega arith))
 
   by-item : (j : ℕ) → Among j (maskItems ns) → (m : Mask) → maskBy ns f j ≡ some m → (k : Mask) × (maskByBefore ns f j ≡ some k)
   unfolding rule35Before
   by-item j a =
-      let x = moves-before ns f j (shift-whole ns f j (r36 ns (still-accepted ns ok)) r37 a (every-at (shiftFitted ns) a r35)) in
+      let x = moves-before ns f j (shift-whole ns f j (r36 ns (still-accepted ns ok)) r37-before a
+      (every-at (shiftFitted ns) a r35-before)) in
       mask-before ns f j (x .0) (x .1)
 
-  on : (o : Option Applying) → Applies (maskItems ns) o → (m : Mask) → then o (maskOn ns f) ≡ some m
+  on-before : (o : Option Applying) → Applies (maskItems ns) o → (m : Mask) → then o (maskOn ns f) ≡ some m
       → (k : Mask) × (then o (maskOnBefore ns f) ≡ some k)
-  on o (nothing q) m e = (native, rw q)
-  on o (applying.item j a q) m e =
+  on-before o (nothing q) m e = (native, rw q)
+  on-before o (applying.item j a q) m e =
       let k = by-item j a m (rw q at e) in
       (k .0, rw q (k .1))
 
   mask-had : (m : Mask) → maskFor ns f ≡ some m → (k : Mask) × (maskForBefore ns f ≡ some k)
   unfolding maskFor maskForBefore
-  mask-had m e = on (applyingTo ns f) (applies ns f n (r31 ns (still-accepted ns ok)) (ranges ns (still-accepted ns ok) n count)) m e
+  mask-had m e = on-before (applyingTo ns f) (applies ns f n (r31 ns (still-accepted ns ok)) (ranges ns (still-accepted ns ok) n count)) m e
 
 -- An object accepted before is accepted still, and its pictures are the same, cell for cell.
 pub keeps-pictures : KeepsPictures
@@ -330,7 +328,7 @@ keeps-pictures s b ok =
           let k = mask-had ns ok (o .n) (o .frames) f low h (m .m) (m .mask) in
           record {
             p = d .p;
-            before = same-steps ns f (o .g) (o .v) (w .w) (o .inverse) (o .geometry) (o .pixels) (o .whole f low h) (w .window)
+            before = same-steps ns f (o .g) (o .v) (w .w) (o .inverse) (o .geometry) (o .pixels) (o .inside f low h) (w .window)
                 (o .photometric) (k .0) (k .1) ∙ d .is;
             after = d .is;
           };

@@ -15,7 +15,6 @@ use Rattle.dataset.specs.Answer.{width, answerOf}
 use Rattle.dataset.specs.Tree.{rowsIn, rowsOf}
 use Rattle.dataset.specs.declared.ReadAnswer.the-variants as answer
 use Rattle.dataset.proofs.Laws.{Small, answer-small}
-use Rattle.basics.proofs.Tests.{and-both}
 use Rattle.node.specs.Nodes.{nodesOf}
 use Rattle.element.specs.Frames.{framesOf}
 use Rattle.conformance.specs.declared.Finding.{Finding}

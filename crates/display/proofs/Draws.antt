@@ -31,10 +31,10 @@ pub record Shows (ns : List Node) (f : ℕ) (masked : Bool) (image after : List 
   pub masked-is : masked ≡ pictureOf ns f .masked
   pub image-is : after ≡ pictureOf ns f .samples ++ drop (length (pictureOf ns f .samples)) image
 
-shows : (ns : List Node) (f : ℕ) (p : Picture) → stepsOf ns f ≡ some p → (image after : List ℕ)
+steps-show : (ns : List Node) (f : ℕ) (p : Picture) → stepsOf ns f ≡ some p → (image after : List ℕ)
     → after ≡ p .samples ++ drop (length (p .samples)) image → Shows ns f (p .masked) image after
 unfolding pictureOf
-shows ns f p e image after h =
+steps-show ns f p e image after h =
     let u : pictureIn (stepsOf ns f) ≡ p = ap pictureIn e in
     record {
       masked-is = ap (λ (q : Picture). q .masked) (sym u);
@@ -56,7 +56,7 @@ module _ (ns : List Node) (f n : ℕ) (g : Geometry) (v : List ℕ) (w : Window)
       let c = collected (nativeCell g v f w inverse) (nativeShade table g v f) (samplesOf g) image room
       (λ i h. native-is g v f low w d inverse table t i) in
       let is = to-picture ns f g v w inverse isG isV frame isW isI noMask e in
-      shows ns f (record { masked = false; samples = c .l }) (is ∙ rw (c .is)) image
+      steps-show ns f (record { masked = false; samples = c .l }) (is ∙ rw (c .is)) image
       (painted (nativeShade table g v f) (samplesOf g) image) (ends (c .l) (c .size) _ (c .image-is))
 
   masked-shows : (ks : List ℕ) (mv : Moves) → maskFor ns f ≡ some (maskOf ks mv) → SoundMask n (maskOf ks mv)
@@ -66,7 +66,7 @@ module _ (ns : List Node) (f n : ℕ) (g : Geometry) (v : List ℕ) (w : Window)
       let c = collected (maskedCell g v f ks mv w inverse) (maskedShade table g v f ks mv) (samplesOf g) image room
       (λ i h. masked-is g v f low w d inverse table t ks mv (s .0) (s .1 .0) i h) in
       let is = to-picture ns f g v w inverse isG isV frame isW isI (maskOf ks mv) e in
-      shows ns f (record { masked = true; samples = c .l }) (is ∙ rw (are-frames g v n whole ks (s .1 .1 .0), c .is))
+      steps-show ns f (record { masked = true; samples = c .l }) (is ∙ rw (are-frames g v n whole ks (s .1 .1 .0), c .is))
       image (painted (maskedShade table g v f ks mv) (samplesOf g) image) (ends (c .l) (c .size) _ (c .image-is))
 
   pub painted-shows : (k : Masking) → maskingOf ns k ≡ maskFor ns f → Gives n (maskFor ns f)

@@ -1,41 +1,17 @@
--- What an accepted answer of the judge says: the rows stand in the buffer, and no rule is broken.
-use mathlib.Core.Path.{_≡_, refl, sym, ap, _∙_}
+-- A call that judges first goes by what the judge answered, so its own answer and what it leaves are those of that answer.
+use mathlib.Core.Path.{_≡_, sym, ap, _∙_}
 use mathlib.Core.List.{List}
-use Prim.Native.Nat.{ℕ, _*_, _≤_}
-use native.Mathlib.Omega.{arith}
-use lib.ListN.{length, take}
+use Prim.Native.Nat.{ℕ}
 use Rattle.dataset.specs.Reading.{readingOf}
-use Rattle.dataset.specs.Answer.{width, answerOf, bufferOf}
-use Rattle.dataset.specs.declared.ReadAnswer.{ReadAnswer}
-use Rattle.dataset.specs.declared.ReadAnswer.the-variants as read
+use Rattle.dataset.specs.Answer.{bufferOf}
 use Rattle.node.specs.Nodes.{nodesOf}
-use Rattle.node.specs.Contracts.{Table}
-use Rattle.conformance.specs.declared.Finding.{Finding}
-use Rattle.conformance.specs.declared.Finding.the-variants as finding
 use Rattle.conformance.specs.declared.JudgeAnswer.{JudgeAnswer}
-use Rattle.conformance.specs.declared.JudgeAnswer.the-variants as judged
-use Rattle.conformance.specs.Judging.{findingOf, answerFor, judgeOf}
-use Rattle.node.proofs.After.{after-reading}
+use Rattle.conformance.specs.Judging.{judgeOf}
+pub use Rattle.conformance.proofs.After.{after-judging}
 use Rattle.basics.specs.Fields.{Answers}
 use Rattle.basics.proofs.Promised.{promised}
 use Rattle.display.specs.declared.ShowAnswer.{ShowAnswer}
 use Rattle.display.specs.Show.{pictureOf, answerFor as shownFor, imageBy, showOf, imageOf, fieldsOf}
-
-pub accepted-parts : (f : Finding) (r : ReadAnswer) (n : ℕ) → judged.Accepted n ≡ answerFor f r → (read.Done n ≡ r) × (f ≡ finding.Accepted)
-accepted-parts finding.Accepted (read.Done m) n e =
-    let q : n ≡ m = cc in
-    (ap read.Done q, refl)
-accepted-parts (finding.Broken rule frame) (read.Done m) n e = let z : _≡_ {A = ℕ} 0 1 = cc in absurd (omega arith)
-accepted-parts f (read.Refused code offset) n e = let z : _≡_ {A = ℕ} 0 1 = cc in absurd (omega arith)
-accepted-parts f read.TooLarge n e = let z : _≡_ {A = ℕ} 0 1 = cc in absurd (omega arith)
-accepted-parts f read.NoRoom n e = let z : _≡_ {A = ℕ} 0 1 = cc in absurd (omega arith)
-
-pub after-judging : (s before buffer : List ℕ) (n : ℕ) → judged.Accepted n ≡ judgeOf s before → buffer ≡ bufferOf (readingOf s) before
-    → ((width * n ≤ length buffer) × Table s (take (width * n) buffer)) × (findingOf (nodesOf s) ≡ finding.Accepted)
-unfolding judgeOf
-after-judging s before buffer n e f =
-    let p = accepted-parts (findingOf (nodesOf s)) (answerOf (readingOf s) before) n e in
-    (after-reading s before buffer n (p .0) f, p .1)
 
 -- A call that judges first answers and leaves what the judge's answer says. The answer `told` is the judge's, taken apart; r is what the
 -- call then answered, and `end` what it left.

@@ -24,7 +24,7 @@ use Rattle.window.specs.Window.{levelOf, shaded}
 use Rattle.window.specs.Contracts.{Drawable}
 use Rattle.window.proofs.Laws.{leveled, shadeNumber, shaded-is}
 use Rattle.steps.specs.Given.{need, check, collect}
-use Rattle.steps.specs.Steps.{Picture, Mask, nativeCell, maskedCell, areFrames, pictureBy, geometryOf, stepsOf, native as noMask}
+use Rattle.steps.specs.Steps.{Mask, nativeCell, maskedCell, areFrames, pictureBy, geometryOf, maskFor, stepsOf, native as noMask}
 use Rattle.steps.specs.Steps.{masked as maskBy}
 use Rattle.basics.specs.Tags
 use Rattle.element.specs.Elements.{usIn}
@@ -38,11 +38,12 @@ use Rattle.display.specs.Drawing.{AllLevels, Whole}
 use Rattle.display.proofs.Small.{us-in-small}
 use Rattle.display.proofs.Objects.{object, windowed}
 use Rattle.display.proofs.Masks.{masking}
-use Rattle.display.proofs.Accepted.{Object, Windowed, AllWithin, SoundMask, Masking}
+use Rattle.display.specs.Contracts.{AllWithin, SoundMask, Gives}
+use Rattle.display.proofs.Accepted.{Object, GivesWindow}
 
 -- ---- Cells that all answer
 
-all-levels-append : (a b : List ℕ) → AllLevels a → AllLevels b → AllLevels (a ++ b)
+pub all-levels-append : (a b : List ℕ) → AllLevels a → AllLevels b → AllLevels (a ++ b)
 all-levels-append [] b p q = q
 all-levels-append (y ∷ ys) b p q = (p .0, all-levels-append ys b (p .1) q)
 
@@ -112,39 +113,6 @@ unfolding areFrames
 are-frames g v n h [] a = refl
 are-frames g v n h (k ∷ ks) a = rw (h k (a .0 .0) (a .0 .1), are-frames g v n h ks (a .1))
 
--- ---- The picture
-
--- What the steps give for a frame: a picture of Rows × Columns cells, each a level.
-pub record Drawn (ns : List Node) (f : ℕ) (g : Geometry) : Type 0 where
-  pub p : Picture
-  pub is : stepsOf ns f ≡ some p
-  pub size : length (p .samples) ≡ samplesOf g
-  pub levels : AllLevels (p .samples)
-
-module _ (ns : List Node) (f : ℕ) (o : Object ns) (low : 1 ≤ f) (high : f ≤ o .n) (w : Windowed ns f (o .g .stored))
-    (k : Masking ns f (o .n)) where
-  pub drawn : Drawn ns f (o .g)
-  unfolding pictureBy
-  drawn =
-      go (k .m) (k .sound)
-      (to-picture ns f (o .g) (o .v) (w .w) (o .inverse) (o .geometry) (o .pixels) (o .whole f low high) (w .window) (o .photometric) (k .m)
-      (k .mask))
-    where
-      go : (m : Mask) → SoundMask (o .n) m → stepsOf ns f ≡ pictureBy (o .g) (o .v) f (w .w) (o .inverse) m → Drawn ns f (o .g)
-      go noMask s e =
-          let c = collect-all (nativeCell (o .g) (o .v) f (w .w) (o .inverse)) (samplesOf (o .g))
-          (λ i h. native-cell (o .g) (o .v) f (w .w) (w .drawable) (o .inverse) i) in
-          record { p = record { masked = false; samples = c .l }; is = e ∙ rw (c .is); size = c .size; levels = c .levels }
-      go (maskBy ks mv) s e =
-          let c = collect-all (maskedCell (o .g) (o .v) f ks mv (w .w) (o .inverse)) (samplesOf (o .g)) (λ i h.
-          masked-cell (o .g) (o .stored-low) (o .v) f ks mv (w .w) (w .drawable) (o .inverse) i (s .0) (are-inside (o .g) mv i h)) in
-          record {
-            p = record { masked = true; samples = c .l };
-            is = e ∙ rw (are-frames (o .g) (o .v) (o .n) (o .whole) ks (s .1 .1 .0), c .is);
-            size = c .size;
-            levels = c .levels;
-          }
-
 -- ---- The size of the picture
 
 -- The size of a frame is Rows × Columns.
@@ -171,11 +139,41 @@ unfolding geometryOf
 geometry-size ns g e = size-given (usIn ns Tags.Rows (root ns)) (usIn ns Tags.Columns (root ns)) (usIn ns Tags.BitsAllocated (root ns))
     (usIn ns Tags.BitsStored (root ns)) g e
 
+-- ---- The picture
+
+module _ (ns : List Node) (f : ℕ) (o : Object ns) (low : 1 ≤ f) (high : f ≤ o .n) (w : GivesWindow ns f (o .g .stored))
+    (k : Gives (o .n) (maskFor ns f)) where
+  drawn : Whole ns f
+  unfolding pictureBy
+  drawn =
+      go (k .m) (k .sound)
+      (to-picture ns f (o .g) (o .v) (w .w) (o .inverse) (o .geometry) (o .pixels) (o .inside f low high) (w .window) (o .photometric)
+      (k .m) (k .mask))
+    where
+      go : (m : Mask) → SoundMask (o .n) m → stepsOf ns f ≡ pictureBy (o .g) (o .v) f (w .w) (o .inverse) m → Whole ns f
+      go noMask s e =
+          let c = collect-all (nativeCell (o .g) (o .v) f (w .w) (o .inverse)) (samplesOf (o .g))
+          (λ i h. native-cell (o .g) (o .v) f (w .w) (w .drawable) (o .inverse) i) in
+          record {
+            p = record { masked = false; samples = c .l };
+            is = e ∙ rw (c .is);
+            size = c .size ∙ geometry-size ns (o .g) (o .geometry);
+            levels = c .levels;
+          }
+      go (maskBy ks mv) s e =
+          let c = collect-all (maskedCell (o .g) (o .v) f ks mv (w .w) (o .inverse)) (samplesOf (o .g)) (λ i h.
+          masked-cell (o .g) (o .stored-low) (o .v) f ks mv (w .w) (w .drawable) (o .inverse) i (s .0) (are-inside (o .g) mv i h)) in
+          record {
+            p = record { masked = true; samples = c .l };
+            is = e ∙ rw (are-frames (o .g) (o .v) (o .n) (o .inside) ks (s .1 .1 .0), c .is);
+            size = c .size ∙ geometry-size ns (o .g) (o .geometry);
+            levels = c .levels;
+          }
+
 pub nothing-lacks : (s : List ℕ) → IsBytes s → findingOf (nodesOf s) ≡ Accepted → (f : ℕ) → 1 ≤ f → f ≤ numberOr0 (framesOf (nodesOf s))
     → Whole (nodesOf s) f
 nothing-lacks s b ok f low high =
     let ns = nodesOf s in
     let o = object ns (λ tag k e. us-in-small s b tag k (root ns) e) ok in
     let h : f ≤ o .n = subst (λ (x : Num). f ≤ numberOr0 x) (o .frames) high in
-    let d = drawn ns f o low h (windowed ns ok o f low h) (masking ns ok (o .n) (o .frames) (o .some-frame) (o .few-frames) f low h) in
-    record { p = d .p; is = d .is; size = d .size ∙ geometry-size ns (o .g) (o .geometry); levels = d .levels }
+    drawn ns f o low h (windowed ns ok o f low h) (masking ns ok (o .n) (o .frames) (o .some-frame) (o .few-frames) f low h)

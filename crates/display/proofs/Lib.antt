@@ -1,4 +1,4 @@
--- What the proofs of the drawing use; the drawing part of demand 3 stands in Drawing.
+-- What the proofs of the drawing use; the drawing part of demand 3 stands in Drawing, and the bytes of a frame in FrameBytes.
 pub mod Accepted
 pub mod Rules
 pub mod Objects
@@ -16,3 +16,5 @@ pub mod Codes
 pub mod Drawing
 pub mod Before
 pub mod Scenes
+pub mod Planned
+pub mod FrameBytes

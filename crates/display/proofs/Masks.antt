@@ -30,7 +30,7 @@ use Rattle.node.specs.Find.{holds, ifPresent, andThen, find, findVr, ofVr, fill
 use Rattle.node.proofs.Walks.{members-end}
 use Rattle.basics.specs.Tags
 use Rattle.element.specs.Elements as elements
-use Rattle.element.specs.Elements.{valueAt, first, insideOf, itemsIn, every}
+use Rattle.element.specs.Elements.{valueAt, first, insideOf, itemsIn, hasPairs, every}
 use Rattle.element.specs.Frames.{framesOf, frameItems, frameItem, sharedItem, groupOf, maskItems, idIn, operationIs}
 use Rattle.rules.specs.Frame.{atFrame, hasId, uniqueIds, isShiftItem, isShiftGroup, item37, rule37}
 use Rattle.rules.specs.Mask.{isOperation, isMask, rule31, isRange, rangeFits, rule32, allFrames, areMaskFrames, averageFits, averagesFit}
@@ -41,11 +41,11 @@ use Rattle.conformance.specs.Judging.{findingOf}
 use Rattle.steps.specs.declared.Applying.{Applying}
 use Rattle.steps.specs.declared.Applying.the-variants.{Item, Nothing}
 use Rattle.steps.specs.Given.{need, check, then}
-use Rattle.steps.specs.Steps.{inPairs, rangeHas, rangeHolds, firstHolding, onMask, applyingTo, averageFrames, offsetAt}
+use Rattle.steps.specs.Steps.{isInPairs, rangeHas, rangeHolds, firstHolding, onMask, applyingTo, averageFrames, offsetAt}
 use Rattle.steps.specs.Steps.{offsetOf, less, tidFrame, naming, ownIn, itemShiftAt, shiftFrom, shiftFor, movesFor, Mask, native, masked}
 use Rattle.steps.specs.Steps.{onTid, maskBy, maskOn, maskFor}
 use Rattle.steps.proofs.Given.{checked}
-use Rattle.display.proofs.Accepted.{AllWithin, SoundMask, Masking}
+use Rattle.display.specs.Contracts.{AllWithin, Short, Gives}
 use Rattle.display.proofs.Rules.{at-items, group-is, r31, r32, r33, r34, r35, r36, r37}
 
 -- ---- Tests
@@ -101,9 +101,7 @@ module _ (ns : List Node) (f n : ℕ) where
   unfolding isRange
   range-has None e = (true, refl)
   range-has (Is r) e =
-      let a = and-both (eqb (nodeAt ns r .vr) US) _ e in
-      let b = and-both (leb 4 (length (valueAt ns r)) && eqb (length (valueAt ns r) % 4) 0) _ (a .1) in
-      (inPairs f (usValues (valueAt ns r)), checked _ _ (both (a .0) (b .0)))
+      (isInPairs f (usValues (valueAt ns r)), checked _ _ (and-both (hasPairs ns r) _ e .0))
 
   range-holds : (j : ℕ) → rangeFits ns n j ≡ true → (h : Bool) × (rangeHolds ns f j ≡ some h)
   unfolding rangeFits rangeHolds
@@ -158,11 +156,6 @@ operations ns e = operations-in ns (find ns Tags.MaskSubtractionSequence (root n
 abbrev pub GivesShift : (Shift → Bool) → Option Shift → Type 0
 GivesShift fit o = (s : Shift) × ((o ≡ some s) × (fit s ≡ true))
 
-abbrev SoundMoves : Moves → Type 0
-SoundMoves m =
-    (isNumber (m .vertical) ≡ true)
-    × ((isNumber (m .horizontal) ≡ true) × (SizeBelow tooFar (m .vertical) × SizeBelow tooFar (m .horizontal)))
-
 short-number : (w : Signed) → isShort w ≡ true → isNumber w ≡ true
 short-number (signed.Plus k) e = refl
 short-number (signed.Minus k) e = refl
@@ -173,7 +166,7 @@ short-size (signed.Plus k) e = omega (arith, leb-true k largestMove e)
 short-size (signed.Minus k) e = omega (arith, leb-true k largestMove e)
 short-size signed.None e = tt
 
-moves : (ns : List Node) (f j : ℕ) → GivesShift isShiftOf (shiftFor ns f j) → (m : Moves) × ((movesFor ns f j ≡ some m) × SoundMoves m)
+moves : (ns : List Node) (f j : ℕ) → GivesShift isShiftOf (shiftFor ns f j) → (m : Moves) × ((movesFor ns f j ≡ some m) × Short m)
 unfolding movesFor
 moves ns f j (s, (q, e)) =
     let b = moves-both s e in
@@ -182,7 +175,11 @@ moves ns f j (s, (q, e)) =
       movesOf s,
       (
         rw q (checked _ _ (both v h)),
-        (v, (h, (short-size (movesOf s .vertical) (b .0), short-size (movesOf s .horizontal) (b .1)))),
+        record {
+          vertical = v;
+          horizontal = h;
+          sizes = record { vertical = short-size (movesOf s .vertical) (b .0); horizontal = short-size (movesOf s .horizontal) (b .1) };
+        },
       ),
     )
 
@@ -274,12 +271,18 @@ module _ (ns : List Node) where
       let u : cond (anyShift ns s) (masksHaveIds ns) true ≡ true = holds-of (sharedItem ns) _ s p r in
       and-both (every (hasId ns) (maskItems ns)) _ (where-true _ _ t u) .0
 
-  group-items : (g : ℕ) → isShiftGroup ns g ≡ true → every (isShiftItem ns) (inside ns g) ≡ true
-  unfolding isShiftGroup
-  group-items g e =
+  -- A test of a group with at least one item, each of which passes p.
+  pub group-each : (g : ℕ) (p : ℕ → Bool) (last : Bool)
+      → (eqb (nodeAt ns g .vr) SQ && (leb 1 (length (inside ns g)) && (every p (inside ns g) && last))) ≡ true
+      → every p (inside ns g) ≡ true
+  group-each g p last e =
       let a = and-both (eqb (nodeAt ns g .vr) SQ) _ e in
       let b = and-both (leb 1 (length (inside ns g))) _ (a .1) in
-      and-both (every (isShiftItem ns) (inside ns g)) _ (b .1) .0
+      and-both (every p (inside ns g)) _ (b .1) .0
+
+  group-items : (g : ℕ) → isShiftGroup ns g ≡ true → every (isShiftItem ns) (inside ns g) ≡ true
+  unfolding isShiftGroup
+  group-items g e = group-each g (isShiftItem ns) _ e
 
 -- The shift that step 4 takes, whatever is asked of shifts: the mask item's own, or that of the item in the frame's group that names it.
 module _ (ns : List Node) (fit : Shift → Bool) (j : ℕ)
@@ -371,34 +374,35 @@ module _ (ns : List Node) (n j : ℕ) where
 
 -- ---- Steps 2 to 4 together
 
-abbrev Masks : ℕ → Option Mask → Type 0
-Masks n o = (m : Mask) × ((o ≡ some m) × SoundMask n m)
-
-module _ (ns : List Node) (f n j : ℕ) (m : Moves) (moved : movesFor ns f j ≡ some m) (sound : SoundMoves m) where
+module _ (ns : List Node) (f n j : ℕ) (m : Moves) (moved : movesFor ns f j ≡ some m) (sound : Short m) where
   by-average : (o : Option (List ℕ)) (ks : List ℕ) → o ≡ some ks → 1 ≤ length ks → length ks ≤ 64 → AllWithin n ks
-      → Masks n (then o (λ l. then (movesFor ns f j) (λ x. some (masked l x))))
-  by-average o ks q a b c = (masked ks m, (rw (q, moved), (a, (b, (c, sound)))))
+      → Gives n (then o (λ l. then (movesFor ns f j) (λ x. some (masked l x))))
+  by-average o ks q a b c = record { m = masked ks m; mask = rw (q, moved); sound = (a, (b, (c, sound))) }
 
-  by-tid : (k : ℕ) (t : Bool) → (leb 1 k && leb k n) ≡ t → Masks n (onTid ns f j (cond t (Is k) None))
-  by-tid k false e = (native, (refl, tt))
+  by-tid : (k : ℕ) (t : Bool) → (leb 1 k && leb k n) ≡ t → Gives n (onTid ns f j (cond t (Is k) None))
+  by-tid k false e = record { m = native; mask = refl; sound = tt }
   by-tid k true e =
       let a = and-both (leb 1 k) _ e in
-      (masked (k ∷ []) m, (rw moved, (omega arith, (omega arith, (((leb-true 1 k (a .0), leb-true k n (a .1)), tt), sound)))))
+      record {
+        m = masked (k ∷ []) m;
+        mask = rw moved;
+        sound = (omega arith, (omega arith, (((leb-true 1 k (a .0), leb-true k n (a .1)), tt), sound)));
+      }
 
-  tid : framesOf ns ≡ Is n → (d : Signed) → offsetOf ns j ≡ some d → Masks n (then (tidFrame ns f j) (onTid ns f j))
+  tid : framesOf ns ≡ Is n → (d : Signed) → offsetOf ns j ≡ some d → Gives n (then (tidFrame ns f j) (onTid ns f j))
   unfolding tidFrame
   tid count d q = rw (q, count) (by-tid (less f d) (leb 1 (less f d) && leb (less f d) n) refl)
 
-  mask-by : framesOf ns ≡ Is n → isOperation ns j ≡ true → averagesFit ns n j ≡ true → offsetFits ns j ≡ true → Masks n (maskBy ns f j)
+  mask-by : framesOf ns ≡ Is n → isOperation ns j ≡ true → averagesFit ns n j ≡ true → offsetFits ns j ≡ true → Gives n (maskBy ns f j)
   unfolding maskBy isOperation
   mask-by count op av off =
       go (operationIs ns (ascii "NONE") j) refl (operationIs ns (ascii "AVG_SUB") j) refl (operationIs ns (ascii "TID") j) refl
     where
       go : (a : Bool) → operationIs ns (ascii "NONE") j ≡ a → (b : Bool) → operationIs ns (ascii "AVG_SUB") j ≡ b → (c : Bool)
           → operationIs ns (ascii "TID") j ≡ c
-          → Masks n (cond a (some native) (cond b (then (averageFrames ns j) (λ ks. then (movesFor ns f j) (λ x. some (masked ks x))))
+          → Gives n (cond a (some native) (cond b (then (averageFrames ns j) (λ ks. then (movesFor ns f j) (λ x. some (masked ks x))))
           (cond c (then (tidFrame ns f j) (onTid ns f j)) none)))
-      go true p b q c r = (native, (refl, tt))
+      go true p b q c r = record { m = native; mask = refl; sound = tt }
       go false p true q c r =
           let w = averages ns n j q av in
           by-average (averageFrames ns j) (w .0) (w .1 .0) (w .1 .1 .0) (w .1 .1 .1 .0) (w .1 .1 .1 .1)
@@ -426,23 +430,21 @@ module _ (ns : List Node) (ok : findingOf ns ≡ Accepted) where
     shifts-fit = r35 ns ok
 
     module _ (f : ℕ) (low : 1 ≤ f) (high : f ≤ n) where
-      by-item : (j : ℕ) → Among j (maskItems ns) → Masks n (maskBy ns f j)
+      by-item : (j : ℕ) → Among j (maskItems ns) → Gives n (maskBy ns f j)
       by-item j a =
           let m = moves ns f j (shift-for ns f j (r36 ns ok) (r37 ns ok n f count low high) a (every-at (shiftFits ns) a shifts-fit)) in
           mask-by ns f n j (m .0) (m .1 .0) (m .1 .1) count (every-at (isOperation ns) a (operations ns (r31 ns ok)))
           (every-at (averagesFit ns n) a averages-fit) (every-at (offsetFits ns) a offsets-fit)
 
-      mask-on : (o : Option Applying) → Applies (maskItems ns) o → Masks n (then o (maskOn ns f))
-      mask-on o (nothing q) = (native, (rw q, tt))
+      mask-on : (o : Option Applying) → Applies (maskItems ns) o → Gives n (then o (maskOn ns f))
+      mask-on o (nothing q) = record { m = native; mask = rw q; sound = tt }
       mask-on o (item j a q) = rw q (by-item j a)
 
-      mask-for : Masks n (maskFor ns f)
+      mask-for : Gives n (maskFor ns f)
       unfolding maskFor
       mask-for = mask-on (applyingTo ns f) (applies ns f n (r31 ns ok) ranges)
 
 -- What demand 3 asks of steps 2 to 4.
 pub masking : (ns : List Node) → findingOf ns ≡ Accepted → (n : ℕ) → framesOf ns ≡ Is n → 1 ≤ n → n ≤ 65535 → (f : ℕ) → 1 ≤ f → f ≤ n
-    → Masking ns f n
-masking ns ok n count some-frame few f low high =
-    let w = mask-for ns ok n count f low high in
-    record { m = w .0; mask = w .1 .0; sound = w .1 .1 }
+    → Gives n (maskFor ns f)
+masking ns ok n count some-frame few f low high = mask-for ns ok n count f low high

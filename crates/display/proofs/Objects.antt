@@ -41,7 +41,7 @@ use Rattle.window.specs.Window.{fullWindow}
 use Rattle.window.specs.Contracts.{Drawable}
 use Rattle.window.proofs.Laws.{power-small}
 use Rattle.steps.specs.Steps.{geometryOf, pixelsOf, groupFor, windowIn, windowOn, windowFor, inverseOf}
-use Rattle.display.proofs.Accepted.{SmallRoot, Object, Windowed}
+use Rattle.display.proofs.Accepted.{SmallRoot, Object, GivesWindow}
 use Rattle.display.proofs.Rules.{at-items, group-is, r10, r11, r12, r15, r30, r38}
 
 -- ---- Rules 10 to 12, 15 and 38: the object
@@ -202,9 +202,9 @@ module _ (ns : List Node) where
     unfolding geometryOf
     shape-is = rw (k .rows, k .columns, k .allocated, k .stored, k .cells .bytes)
 
-    pixels-are : pixelsOf ns ≡ some (valueAt ns (k .p))
+    pixels-found : pixelsOf ns ≡ some (valueAt ns (k .p))
     unfolding pixelsOf
-    pixels-are = rw (k .pixels, k .vr)
+    pixels-found = rw (k .pixels, k .vr)
 
     inside-pixels : (f : ℕ) → 1 ≤ f → f ≤ k .n → isFrame shape (valueAt ns (k .p)) f ≡ true
     unfolding isFrame
@@ -239,8 +239,8 @@ object ns small ok =
       columns-low = k .some-column;
       columns-high = fewer (small Tags.Columns (k .c) (k .columns));
       v = valueAt ns (k .p);
-      pixels = pixels-are ns k;
-      whole = inside-pixels ns k;
+      pixels = pixels-found ns k;
+      inside = inside-pixels ns k;
       inverse = t .0;
       photometric = t .1;
     }
@@ -256,7 +256,7 @@ all-first p v e = go (valuesOf v) (values-some v) e
     go [] h q = absurd (omega arith)
     go (x ∷ vs) h q = and-both (p x) (all p vs) q .0
 
-width-number : (least : ℕ) (s : Signed) → isWidth least s ≡ true → isNumber s ≡ true
+pub width-number : (least : ℕ) (s : Signed) → isWidth least s ≡ true → isNumber s ≡ true
 width-number least (signed.Plus n) e = refl
 width-number least (signed.Minus n) e = absurd (false-is-true e)
 width-number least signed.None e = absurd (false-is-true e)
@@ -326,7 +326,7 @@ unfolding windowFor
 group-window ns f stored o w e h = rw e h
 
 -- The window of each frame.
-pub windowed : (ns : List Node) → findingOf ns ≡ Accepted → (o : Object ns) (f : ℕ) → 1 ≤ f → f ≤ o .n → Windowed ns f (o .g .stored)
+pub windowed : (ns : List Node) → findingOf ns ≡ Accepted → (o : Object ns) (f : ℕ) → 1 ≤ f → f ≤ o .n → GivesWindow ns f (o .g .stored)
 unfolding rule30 item30
 windowed ns ok o f l h =
     let a = at-items ns f (item30 ns) (r30 ns ok (o .n) f (o .frames) l h) in

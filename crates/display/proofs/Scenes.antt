@@ -1,4 +1,5 @@
--- What an accepted object gives to its scene and to the plan of each frame.
+-- In an accepted object no step lacks anything, and the rules bound its sizes; so its scene and the plan of each frame are what drawing
+-- requires.
 use mathlib.Core.Path.{_≡_, sym, ap, _∙_, subst}
 use mathlib.Core.Bool.{true, _||_}
 use mathlib.Core.List.{List}
@@ -31,7 +32,7 @@ use Rattle.display.specs.Show.{imageSize, pictureIn, pictureOf}
 use Rattle.display.specs.Drawing.{Whole}
 use Rattle.steps.proofs.Given.{never, same-some, check-some}
 use Rattle.display.proofs.Lacking.{nothing-lacks}
-use Rattle.display.proofs.Accepted.{Windowed}
+use Rattle.display.proofs.Accepted.{GivesWindow}
 use Rattle.display.proofs.Whole as whole
 use Rattle.display.specs.Contracts.{MasksReady, IsObject, IsScene, IsPixels, IsPlan}
 use Rattle.display.specs.declared.Scene.{Scene}
@@ -78,7 +79,7 @@ pixel-bytes s rows t p h =
 -- ---- Objects
 
 pub objects : (s : List ℕ) (n f : ℕ) → IsObject s n → 1 ≤ f → f ≤ n → whole.All (nodesOf s) f n
-objects s n f h low high = whole.all s (h .bytes) (h .sound) f n (h .frames) low high
+objects s n f h low high = whole.all-of s (h .bytes) (h .sound) f n (h .frames) low high
 
 module _ (ns : List Node) (f n : ℕ) (g : Geometry) (a : whole.All ns f n) (e : geometryOf ns ≡ some g) where
   same-geometry : a .o .g ≡ g
@@ -87,11 +88,22 @@ module _ (ns : List Node) (f n : ℕ) (g : Geometry) (a : whole.All ns f n) (e :
   pub stored-most : g .stored ≤ 16
   stored-most = subst (λ (x : Geometry). x .stored ≤ 16) same-geometry (a .o .stored-high)
 
-  pub window-of : Windowed ns f (g .stored)
-  window-of = subst (λ (x : Geometry). Windowed ns f (x .stored)) same-geometry (a .win)
+  pub window-of : GivesWindow ns f (g .stored)
+  window-of = subst (λ (x : Geometry). GivesWindow ns f (x .stored)) same-geometry (a .win)
 
   pub frame-small : f < 4294967296
   frame-small = omega (arith, a .high, a .o .few-frames)
+
+-- A picture that lacks nothing has Rows × Columns cells, and in an accepted object none lacks anything.
+pub whole-size : (ns : List Node) (f : ℕ) → Whole ns f → length (pictureOf ns f .samples) ≡ imageSize ns
+unfolding pictureOf
+whole-size ns f w = ap (λ (p : Option Picture). length (pictureIn p .samples)) (w .is) ∙ w .size
+
+pub picture-cells : (s : List ℕ) (n f : ℕ) → IsObject s n → 1 ≤ f → f ≤ n
+    → length (pictureOf (nodesOf s) f .samples) ≡ imageSize (nodesOf s)
+picture-cells s n f h low high =
+    whole-size (nodesOf s) f (nothing-lacks s (h .bytes) (h .sound) f low
+    (subst (λ (x : Num). f ≤ numberOr0 x) (sym (h .frames)) high))
 
 module _ (s : List ℕ) (n f : ℕ) (h : IsObject s n) (low : 1 ≤ f) (high : f ≤ n) (c : Scene) (q : IsScene (nodesOf s) c) where
   pub all : whole.All (nodesOf s) f n
@@ -104,14 +116,10 @@ module _ (s : List ℕ) (n f : ℕ) (h : IsObject s n) (low : 1 ≤ f) (high : f
   is-pixels = record { below = q .below; is = pixels-are .vr }
 
   pub based : whole.Based (nodesOf s) f n (c .g) (valueAt (nodesOf s) (c .p))
-  based = whole.based (nodesOf s) f n (c .g) (valueAt (nodesOf s) (c .p)) all low (q .geometry) (pixels-are .is)
+  based = whole.based-on (nodesOf s) f n (c .g) (valueAt (nodesOf s) (c .p)) all low (q .geometry) (pixels-are .is)
 
   pub picture-size : length (pictureOf (nodesOf s) f .samples) ≡ samplesOf (c .g)
-  unfolding pictureOf
-  picture-size =
-      let w : Whole (nodesOf s) f = nothing-lacks s (h .bytes) (h .sound) f low
-      (subst (λ (x : Num). f ≤ numberOr0 x) (sym (h .frames)) high) in
-      ap (λ (p : Option Picture). length (pictureIn p .samples)) (w .is) ∙ (w .size ∙ sym (based .size))
+  picture-size = picture-cells s n f h low high ∙ sym (based .size)
 
   module _ (p : Plan) (r : IsPlan (nodesOf s) f (c .g .stored) p) where
     pub ready : MasksReady (nodesOf s) (valueAt (nodesOf s) (c .p)) (c .g) (p .masking)

@@ -7,6 +7,7 @@ use native.Mathlib.Omega.{arith}
 use lib.ListN.{length, getD, take, drop}
 use lib.Dec.{eqb}
 use Rattle.basics.specs.Bytes.{IsBytes, le16}
+use Rattle.basics.specs.Vr.{US}
 use Rattle.basics.proofs.Bytes.{none-bytes, take-bytes, drop-bytes}
 use Rattle.dataset.specs.Reading.{Row}
 use Rattle.dataset.specs.Tree.{rowsOf}
@@ -41,7 +42,7 @@ us-small v b k e = go (eqb (length v) 2) e
 
 pub us-in-small : (s : List ℕ) → IsBytes s → (tag k : ℕ) (is : List ℕ) → usIn (nodesOf s) tag is ≡ Is k → k < 65536
 unfolding nodesOf
-us-in-small s b tag k is e = go (findVr (nodesOf s) tag 0x5553 is) e
+us-in-small s b tag k is e = go (findVr (nodesOf s) tag US is) e
   where
     go : (o : Num) → andThen o (λ i. usOf (nodeAt (nodesOf s) i .value)) ≡ Is k → k < 65536
     go (Is i) e = us-small (nodeAt (nodesOf s) i .value) (node-bytes s b (rowsOf s) i) k e

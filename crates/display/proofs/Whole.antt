@@ -1,4 +1,4 @@
--- All that drawing frame f of an accepted object rests on, in one place.
+-- An accepted object holds all that drawing frame f of it rests on, since each fact follows from a rule: here they are in one place.
 use mathlib.Core.Path.{_≡_, sym, _∙_, subst}
 use mathlib.Core.Bool.{true}
 use mathlib.Core.List.{List, [], _∷_}
@@ -29,18 +29,18 @@ use Rattle.node.proofs.Tests.{same-is}
 use Rattle.display.proofs.Answering.{gives-sound}
 use Rattle.display.proofs.Objects.{object, windowed}
 use Rattle.display.proofs.Masks as masks
-use Rattle.display.proofs.Accepted.{Object, Windowed}
+use Rattle.display.proofs.Accepted.{Object, GivesWindow, shape-of}
 
 pub record All (ns : List Node) (f n : ℕ) : Type 0 where
   pub o : Object ns
   pub n-is : o .n ≡ n
   pub high : f ≤ o .n
-  pub win : Windowed ns f (o .g .stored)
+  pub win : GivesWindow ns f (o .g .stored)
   pub mask : Gives n (maskFor ns f)
 
-pub all : (s : List ℕ) → IsBytes s → findingOf (nodesOf s) ≡ Accepted → (f n : ℕ) → framesOf (nodesOf s) ≡ Is n → 1 ≤ f → f ≤ n
+pub all-of : (s : List ℕ) → IsBytes s → findingOf (nodesOf s) ≡ Accepted → (f n : ℕ) → framesOf (nodesOf s) ≡ Is n → 1 ≤ f → f ≤ n
     → All (nodesOf s) f n
-all s b ok f n frames low high =
+all-of s b ok f n frames low high =
     let ns = nodesOf s in
     let o = object ns (λ tag k e. us-in-small s b tag k (root ns) e) ok in
     let q : o .n ≡ n = same-is (o .frames) frames in
@@ -69,13 +69,13 @@ module _ (ns : List Node) (v : List ℕ) (g : Geometry) (n : ℕ) (whole : (k : 
             frames = λ i h.
                 whole _ (all-at n (usValues (valueAt ns k)) (s .1 .1 .0) i h .0) (all-at n (usValues (valueAt ns k)) (s .1 .1 .0) i h .1);
           },
-          record { vertical = s .1 .1 .1 .1 .1 .0; horizontal = s .1 .1 .1 .1 .1 .1 },
+          s .1 .1 .1 .sizes,
         ),
       )
   masks-ready (masking.One t m) o e b q =
       let s = gives-sound n (maskOf (t ∷ []) m) o (sym e) q in (
         omega (arith, s .1 .1 .0 .0 .1),
-        (whole t (s .1 .1 .0 .0 .0) (s .1 .1 .0 .0 .1), record { vertical = s .1 .1 .1 .1 .1 .0; horizontal = s .1 .1 .1 .1 .1 .1 }),
+        (whole t (s .1 .1 .0 .0 .0) (s .1 .1 .0 .0 .1), s .1 .1 .1 .sizes),
       )
   masks-ready masking.Lacks o e b q = absurd (never (e ∙ q .mask))
 
@@ -87,31 +87,22 @@ pub record Based (ns : List Node) (f n : ℕ) (g : Geometry) (v : List ℕ) : Ty
   pub each : (k : ℕ) → 1 ≤ k → k ≤ n → isFrame g v k ≡ true
   pub size : samplesOf g ≡ imageSize ns
   pub few : n ≤ 65535
-  pub win : Windowed ns f (g .stored)
+  pub win : GivesWindow ns f (g .stored)
 
-pub based : (ns : List Node) (f n : ℕ) (g : Geometry) (v : List ℕ) → All ns f n → 1 ≤ f → geometryOf ns ≡ some g → pixelsOf ns ≡ some v
+pub based-on : (ns : List Node) (f n : ℕ) (g : Geometry) (v : List ℕ) → All ns f n → 1 ≤ f → geometryOf ns ≡ some g → pixelsOf ns ≡ some v
     → Based ns f n g v
-based ns f n g v a low eg ev =
+based-on ns f n g v a low eg ev =
     let o = a .o in
     let p : o .g ≡ g = same-some (o .geometry) eg in
     let q : o .v ≡ v = same-some (o .pixels) ev in
-    let shape : Shaped (o .g) = record {
-      width = o .width;
-      stored-some = o .stored-low;
-      stored-most = o .stored-high;
-      rows-some = o .rows-low;
-      rows-most = o .rows-high;
-      columns-some = o .columns-low;
-      columns-most = o .columns-high;
-    } in
     let each : (k : ℕ) → 1 ≤ k → k ≤ n → isFrame g v k ≡ true =
     λ k l h. subst (λ (x : Geometry). isFrame x v k ≡ true) p
-    (subst (λ (y : List ℕ). isFrame (o .g) y k ≡ true) q (o .whole k l (omega (arith, a .n-is)))) in
+    (subst (λ (y : List ℕ). isFrame (o .g) y k ≡ true) q (o .inside k l (omega (arith, a .n-is)))) in
     record {
-      shape = subst Shaped p shape;
+      shape = subst Shaped p (shape-of o);
       inside = each f low (omega (arith, a .n-is, a .high));
       each = each;
       size = geometry-size ns g eg;
       few = omega (arith, a .n-is, o .few-frames);
-      win = subst (λ (x : Geometry). Windowed ns f (x .stored)) p (a .win);
+      win = subst (λ (x : Geometry). GivesWindow ns f (x .stored)) p (a .win);
     }

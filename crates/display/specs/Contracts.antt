@@ -7,9 +7,9 @@ use Prim.Native.Nat.{ℕ, _≤_, _<_}
 use lib.ListN.{length}
 use Rattle.basics.specs.Bytes.{IsBytes}
 use Rattle.value.specs.Number.{usValues, isNumber}
-use Rattle.value.specs.Contracts.{SizeBelow, Below}
+use Rattle.value.specs.Contracts.{Below}
 use Rattle.shift.specs.declared.Moves.{Moves}
-use Rattle.shift.specs.Contracts.{tooFar, ShortMoves}
+use Rattle.shift.specs.Contracts.{ShortMoves}
 use Rattle.node.specs.Nodes.{Node, nodesOf, nodeAt, root}
 use Rattle.element.specs.Elements.{valueAt}
 use Rattle.pixel.specs.declared.Geometry.{Geometry}
@@ -41,8 +41,6 @@ use Rattle.display.specs.Show.{imageSize}
 use Rattle.display.specs.declared.Scene.{Scene}
 use Rattle.display.specs.declared.Plan.{Plan}
 
--- What the functions inside `show` require, and promise in terms of the steps.
-
 -- ---- What masks a frame
 
 -- Every number is one of 1 to n.
@@ -50,11 +48,13 @@ abbrev pub AllWithin : ℕ → List ℕ → Type 0
 AllWithin n [] = Unit {0}
 AllWithin n (k ∷ ks) = ((1 ≤ k) × (k ≤ n)) × AllWithin n ks
 
--- Nothing, or 1 to 64 of the n frames, moved by whole quarters of at most 64 pixels.
-abbrev pub Short : Moves → Type 0
-Short m = (isNumber (m .vertical) ≡ true)
-    × ((isNumber (m .horizontal) ≡ true) × (SizeBelow tooFar (m .vertical) × SizeBelow tooFar (m .horizontal)))
+-- Whole quarters of at most 64 pixels, both numbers.
+pub record Short (m : Moves) : Type 0 where
+  pub vertical : isNumber (m .vertical) ≡ true
+  pub horizontal : isNumber (m .horizontal) ≡ true
+  pub sizes : ShortMoves m
 
+-- Nothing, or 1 to 64 of the n frames, moved by such moves.
 abbrev pub SoundMask : ℕ → Mask → Type 0
 SoundMask n noMask = Unit {0}
 SoundMask n (maskOf ks m) = (1 ≤ length ks) × ((length ks ≤ 64) × (AllWithin n ks × Short m))
@@ -176,3 +176,12 @@ pub record IsPlan (ns : List Node) (f stored : ℕ) (p : Plan) : Type 0 where
   pub drawable : Drawable (p .window)
   pub masking-is : maskingOf ns (p .masking) ≡ maskFor ns f
   pub below : MaskingBelow (length ns) (p .masking)
+
+-- Frame f of an accepted object of n frames, with the scene and the plan worked out for it.
+pub record PlanReady (s rows : List ℕ) (n : ℕ) (c : Scene) (f : ℕ) (p : Plan) : Type 0 where
+  pub table : Table s rows
+  pub object : IsObject s n
+  pub scene : IsScene (nodesOf s) c
+  pub plan : IsPlan (nodesOf s) f (c .g .stored) p
+  pub low : 1 ≤ f
+  pub high : f ≤ n

@@ -2,3 +2,4 @@ pub mod Show
 pub mod Contracts
 pub mod Drawing
 pub mod Before
+pub mod FrameBytes

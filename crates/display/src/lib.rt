@@ -33,7 +33,7 @@ use pixel::Geometry;
 use shift::Moves;
 use steps::Applying;
 use steps::Found;
-use steps::Inverse;
+use steps::Holds;
 use steps::Operation;
 use steps::Shifts;
 use steps::Sized;
@@ -260,9 +260,9 @@ fn is_inverse(bytes: &[u8], rows: &[u32]) -> bool
     ensures { λ r. ⌜ inverseOf (nodesOf (now (bytes .entry))) ≡ some r ⌝ }
 {
     match steps::inverse_of(bytes, rows) {
-        Inverse::Yes => true,
-        Inverse::No => false,
-        Inverse::Lacks => false,
+        Holds::Yes => true,
+        Holds::No => false,
+        Holds::Lacks => false,
     }
 }
 
@@ -313,7 +313,7 @@ pub fn scene_of(bytes: &[u8], rows: &[u32], n: usize) -> Scene
     let Sized::Is(g) = steps::geometry_of(bytes, rows) else {
         return no_scene();
     };
-    let Num::Is(p) = element::find_root(bytes, rows, tags::PIXEL_DATA) else {
+    let Num::Is(p) = node::find_root(bytes, rows, tags::PIXEL_DATA) else {
         return no_scene();
     };
     let inverse = is_inverse(bytes, rows);
@@ -380,7 +380,7 @@ fn draw(bytes: &[u8], rows: &[u32], frame: usize, n: usize, image: &mut [u8]) ->
     let window = own.window;
     let masking = own.masking;
     let inverse = c.inverse;
-    let mut table: [u8; 131072] = [0; 131072];
+    let mut table: [u8; window::PLACES] = [0; window::PLACES];
     lines::fill(window, g.stored, inverse, &mut table);
     let shades = Shades {
         window,

@@ -1,19 +1,28 @@
--- Items along a sequence: how many there are, which is the one, and where a cursor stands among them.
+-- Pairs of numbers; and items along a sequence: how many there are, which is the one, and where a cursor stands among them.
 use mathlib.Core.Path.{_≡_, refl, sym}
-use Prim.Native.Nat.{ℕ, suc, _+_, _≤_, _<_}
+use Prim.Native.Nat.{ℕ, suc, _+_, _%_, _≤_, _<_}
 use native.Mathlib.Omega.{arith}
 use mathlib.Core.List.{List, [], _∷_}
 use mathlib.Core.Bool.{Bool, true, false, cond, _&&_}
 use lib.ListN.{length, drop}
-use lib.Dec.{eqb}
-use borrow.Author.Tests.{eq-eqb, ne-eqb}
-use Rattle.basics.specs.Vr.{SQ}
+use lib.Dec.{eqb, leb}
+use borrow.Author.Tests.{eq-eqb, ne-eqb, eqb-true}
+use Rattle.basics.proofs.Tests.{and-both}
+use Rattle.basics.specs.Vr.{SQ, US}
 use Rattle.value.specs.declared.Num.{Num}
 use Rattle.value.specs.declared.Num.the-variants.{Is, None}
 use Rattle.node.specs.Nodes.{Node, nodeAt, nextNode, members, inside}
 use Rattle.node.proofs.Walks.{members-end, members-next}
-use Rattle.element.specs.Elements.{oneItem, theItem, first}
+use Rattle.element.specs.Elements.{valueAt, oneItem, theItem, first, hasPairs}
 use Rattle.element.specs.Contracts.{Along}
+
+-- ---- Pairs of numbers
+
+-- A node that holds pairs holds whole ones.
+pub pairs-whole : (ns : List Node) (i : ℕ) → hasPairs ns i ≡ true → length (valueAt ns i) % 4 ≡ 0
+pairs-whole ns i e =
+    let pairs = and-both (eqb (nodeAt ns i .vr) US) (leb 4 (length (valueAt ns i)) && eqb (length (valueAt ns i) % 4) 0) e .1 in
+    eqb-true (length (valueAt ns i) % 4) 0 (and-both (leb 4 (length (valueAt ns i))) (eqb (length (valueAt ns i) % 4) 0) pairs .1)
 
 -- ---- The one item of a sequence
 

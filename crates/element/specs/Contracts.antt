@@ -1,4 +1,4 @@
--- Where a cursor is along the items of a sequence. None of this is in document 01.
+-- Where a cursor is along the items of a sequence. None of this is in the papers.
 use mathlib.Core.Path.{_≡_}
 use Prim.Native.Nat.{ℕ, _≤_}
 use mathlib.Core.List.{List}

@@ -1,10 +1,10 @@
 -- Reads of one element among members, by its tag: the vocabulary of the rules and the drawing steps. Each asks for the element's VR; a
 -- read that finds no answer gives `None`, and a test of it is false.
-use Prim.Native.Nat.{ℕ}
+use Prim.Native.Nat.{ℕ, _%_}
 use mathlib.Core.List.{List, [], _∷_}
 use mathlib.Core.Bool.{Bool, true, false, cond, _&&_, _||_}
 use lib.ListN.{length}
-use lib.Dec.{eqb}
+use lib.Dec.{eqb, leb}
 use Rattle.basics.specs.Vr.{SQ, CS, UI, US}
 use Rattle.value.specs.declared.Num.{Num}
 use Rattle.value.specs.declared.Num.the-variants.{Is, None}
@@ -61,6 +61,12 @@ every p (i ∷ is) = p i && every p is
 unfoldable pub some : (ℕ → Bool) → List ℕ → Bool
 some p [] = false
 some p (i ∷ is) = p i || some p is
+
+-- ---- Pairs of numbers
+
+-- Node i holds pairs of US numbers, at least one.
+abbrev pub hasPairs : List Node → ℕ → Bool
+hasPairs ns i = eqb (nodeAt ns i .vr) US && (leb 4 (length (valueAt ns i)) && eqb (length (valueAt ns i) % 4) 0)
 
 -- ---- The function of a window
 

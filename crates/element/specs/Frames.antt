@@ -8,7 +8,7 @@ use Rattle.value.specs.declared.Num.{Num}
 use Rattle.value.specs.declared.Num.the-variants.{Is, None}
 use Rattle.value.specs.declared.Signed.{Signed}
 use Rattle.value.specs.declared.Signed.the-variants as signed
-use Rattle.value.specs.Number.{isOf}
+use Rattle.value.specs.Number.{integerOf}
 use Rattle.node.specs.Nodes.{Node, root, inside}
 use Rattle.node.specs.Find.{andThen, orElse, find, findVr}
 use Rattle.basics.specs.Tags.{NumberOfFrames, SharedFunctionalGroupsSequence, PerFrameFunctionalGroupsSequence}
@@ -24,7 +24,7 @@ asCount signed.None = None
 
 -- Number of Frames, the paper's N.
 unfoldable pub framesOf : List Node → Num
-framesOf ns = andThen (findVr ns NumberOfFrames IS (root ns)) (λ i. asCount (isOf (valueAt ns i)))
+framesOf ns = andThen (findVr ns NumberOfFrames IS (root ns)) (λ i. asCount (integerOf (valueAt ns i)))
 
 -- The one item of the shared functional groups.
 unfoldable pub sharedItem : List Node → Num

@@ -8,9 +8,9 @@ ghost use Rattle.node.specs.Nodes.{nodesOf, members, root, inside};
 ghost use Rattle.node.specs.Find.{absent, andThen, holds, find, ofVr, findVr, has};
 ghost use Rattle.node.specs.Contracts.{Table};
 ghost use Rattle.value.specs.Contracts.{Below, SizeBelow};
-ghost use Rattle.value.specs.Number.{usOf};
+ghost use Rattle.value.specs.Number.{integerLimit, usOf};
 ghost use Rattle.value.specs.Words.{isWord};
-ghost use Rattle.element.specs.Elements.{valueAt, usIn, csIs, uiIs, oneItem, theItem, itemsIn, functionOn, functionIn};
+ghost use Rattle.element.specs.Elements.{valueAt, usIn, csIs, uiIs, oneItem, theItem, itemsIn, hasPairs, functionOn, functionIn};
 ghost use Rattle.value.specs.declared.Num.the-variants as num;
 ghost use Rattle.element.specs.Frames.{asCount, framesOf, sharedItem, frameItems, groupOf, maskItems};
 ghost use Rattle.element.specs.Contracts.{Along};
@@ -70,28 +70,20 @@ fn is_cs_at(bytes: &[u8], rows: &[u32], found: Num, word: &[u8]) -> bool
 
 // ---- In the root
 
-pub fn find_root(bytes: &[u8], rows: &[u32], tag: usize) -> Num
-    requires { ⌜ Table (now bytes) (now rows) ⌝ }
-    ensures { λ r. ⌜ r ≡ find (nodesOf (now (bytes .entry))) tag (root (nodesOf (now (bytes .entry)))) ⌝ }
-    ensures { λ r. ⌜ Below (length (nodesOf (now (bytes .entry)))) r ⌝ }
-{
-    node::find_top(bytes, rows, tag)
-}
-
 // The element of the tag and VR.
 pub fn find_vr_root(bytes: &[u8], rows: &[u32], tag: usize, vr: usize) -> Num
     requires { ⌜ Table (now bytes) (now rows) ⌝ }
     ensures { λ r. ⌜ r ≡ findVr (nodesOf (now (bytes .entry))) tag vr (root (nodesOf (now (bytes .entry)))) ⌝ }
     ensures { λ r. ⌜ Below (length (nodesOf (now (bytes .entry)))) r ⌝ }
 {
-    vr_at(bytes, rows, find_root(bytes, rows, tag), vr)
+    vr_at(bytes, rows, node::find_root(bytes, rows, tag), vr)
 }
 
 pub fn is_absent_root(bytes: &[u8], rows: &[u32], tag: usize) -> bool
     requires { ⌜ Table (now bytes) (now rows) ⌝ }
     ensures { λ r. ⌜ r ≡ absent (find (nodesOf (now (bytes .entry))) tag (root (nodesOf (now (bytes .entry))))) ⌝ }
 {
-    match find_root(bytes, rows, tag) {
+    match node::find_root(bytes, rows, tag) {
         Num::None => true,
         Num::Is(_) => false,
     }
@@ -135,20 +127,12 @@ pub fn is_ui_root(bytes: &[u8], rows: &[u32], tag: usize, uid: &[u8]) -> bool
 
 // ---- In an item, or directly in another node
 
-pub fn find_item(bytes: &[u8], rows: &[u32], item: usize, tag: usize) -> Num
-    requires { ⌜ Table (now bytes) (now rows) × (item < length (nodesOf (now bytes))) ⌝ }
-    ensures { λ r. ⌜ r ≡ find (nodesOf (now (bytes .entry))) tag (inside (nodesOf (now (bytes .entry))) item) ⌝ }
-    ensures { λ r. ⌜ Below (length (nodesOf (now (bytes .entry)))) r ⌝ }
-{
-    node::find_inside(bytes, rows, item, tag)
-}
-
 pub fn find_vr_item(bytes: &[u8], rows: &[u32], item: usize, tag: usize, vr: usize) -> Num
     requires { ⌜ Table (now bytes) (now rows) × (item < length (nodesOf (now bytes))) ⌝ }
     ensures { λ r. ⌜ r ≡ findVr (nodesOf (now (bytes .entry))) tag vr (inside (nodesOf (now (bytes .entry))) item) ⌝ }
     ensures { λ r. ⌜ Below (length (nodesOf (now (bytes .entry)))) r ⌝ }
 {
-    vr_at(bytes, rows, find_item(bytes, rows, item, tag), vr)
+    vr_at(bytes, rows, node::find_in_item(bytes, rows, item, tag), vr)
 }
 
 pub fn us_item(bytes: &[u8], rows: &[u32], item: usize, tag: usize) -> Num
@@ -253,6 +237,25 @@ pub fn advance(bytes: &[u8], rows: &[u32], c: Items) -> Items
     }
 }
 
+// ---- Pairs of numbers
+
+// Whether node i holds pairs of US numbers, at least one.
+pub fn has_pairs(bytes: &[u8], rows: &[u32], i: usize) -> bool
+    requires { ⌜ Table (now bytes) (now rows) × (i < length (nodesOf (now bytes))) ⌝ }
+    ensures { λ r. ⌜ r ≡ hasPairs (nodesOf (now (bytes .entry))) i ⌝ }
+{
+    if node::vr(bytes, rows, i) == vrs::US {
+        let v = node::value(bytes, rows, i);
+        if 4 <= v.len() {
+            v.len() % 4 == 0
+        } else {
+            false
+        }
+    } else {
+        false
+    }
+}
+
 // ---- The function of a window
 
 // VOI LUT Function at node k.
@@ -272,7 +275,7 @@ pub fn function_in(bytes: &[u8], rows: &[u32], item: usize) -> Function
     requires { ⌜ Table (now bytes) (now rows) × (item < length (nodesOf (now bytes))) ⌝ }
     ensures { λ r. ⌜ r ≡ functionIn (nodesOf (now (bytes .entry))) (inside (nodesOf (now (bytes .entry))) item) ⌝ }
 {
-    match find_item(bytes, rows, item, tags::VOI_LUT_FUNCTION) {
+    match node::find_in_item(bytes, rows, item, tags::VOI_LUT_FUNCTION) {
         Num::None => Function::Linear,
         Num::Is(k) => function_at(bytes, rows, k),
     }
@@ -282,9 +285,9 @@ pub fn function_in(bytes: &[u8], rows: &[u32], item: usize) -> Function
 
 // A signed number as a count: a negative one counts as 0.
 fn as_count(n: Signed) -> Num
-    requires { ⌜ SizeBelow 100000000000 n ⌝ }
+    requires { ⌜ SizeBelow integerLimit n ⌝ }
     ensures { λ r. ⌜ r ≡ asCount n ⌝ }
-    ensures { λ r. ⌜ Below 100000000000 r ⌝ }
+    ensures { λ r. ⌜ Below integerLimit r ⌝ }
 {
     match n {
         Signed::Plus(k) => Num::Is(k),
@@ -297,11 +300,11 @@ fn as_count(n: Signed) -> Num
 pub fn frame_count(bytes: &[u8], rows: &[u32]) -> Num
     requires { ⌜ Table (now bytes) (now rows) ⌝ }
     ensures { λ r. ⌜ r ≡ framesOf (nodesOf (now (bytes .entry))) ⌝ }
-    ensures { λ r. ⌜ Below 100000000000 r ⌝ }
+    ensures { λ r. ⌜ Below integerLimit r ⌝ }
 {
     match find_vr_root(bytes, rows, tags::NUMBER_OF_FRAMES, vrs::IS) {
         Num::None => Num::None,
-        Num::Is(i) => as_count(value::is_of(node::value(bytes, rows, i))),
+        Num::Is(i) => as_count(value::integer_of(node::value(bytes, rows, i))),
     }
 }
 
@@ -311,7 +314,7 @@ pub fn shared_item(bytes: &[u8], rows: &[u32]) -> Num
     ensures { λ r. ⌜ r ≡ sharedItem (nodesOf (now (bytes .entry))) ⌝ }
     ensures { λ r. ⌜ Below (length (nodesOf (now (bytes .entry)))) r ⌝ }
 {
-    match find_root(bytes, rows, tags::SHARED_FUNCTIONAL_GROUPS_SEQUENCE) {
+    match node::find_root(bytes, rows, tags::SHARED_FUNCTIONAL_GROUPS_SEQUENCE) {
         Num::None => Num::None,
         Num::Is(i) => the_item(bytes, rows, i),
     }
@@ -339,8 +342,8 @@ fn group_of(bytes: &[u8], rows: &[u32], tag: usize, shared: usize, item: usize) 
     ensures { λ r. ⌜ r ≡ groupOf (nodesOf (now (bytes .entry))) tag shared item ⌝ }
     ensures { λ r. ⌜ Below (length (nodesOf (now (bytes .entry)))) r ⌝ }
 {
-    match find_item(bytes, rows, item, tag) {
+    match node::find_in_item(bytes, rows, item, tag) {
         Num::Is(g) => Num::Is(g),
-        Num::None => find_item(bytes, rows, shared, tag),
+        Num::None => node::find_in_item(bytes, rows, shared, tag),
     }
 }

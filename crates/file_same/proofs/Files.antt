@@ -18,6 +18,7 @@ use Rattle.conformance.specs.declared.Finding.{Finding}
 use Rattle.conformance.specs.declared.Finding.the-variants as finding
 use Rattle.conformance.specs.declared.JudgeAnswer.{JudgeAnswer}
 use Rattle.conformance.specs.declared.JudgeAnswer.the-variants as judged
+use Rattle.conformance.proofs.After.{accepted-parts}
 use Rattle.conformance.specs.Judging.{findingOf, answerFor, judgeOf}
 use Rattle.display.specs.Show.{showOf, imageOf, fieldsOf}
 use Rattle.display.specs.declared.ShowAnswer.{ShowAnswer}
@@ -29,18 +30,23 @@ use Rattle.meta.specs.declared.Meta.{Meta}
 use Rattle.meta.specs.declared.Meta.the-variants as head
 use Rattle.meta.specs.Meta.{metaOf, part}
 use Rattle.meta.proofs.Starts.{starts-within}
-use Rattle.file.specs.declared.Start.the-variants as start
-use Rattle.file.specs.declared.ReadFileAnswer.the-variants as readFile
-use Rattle.file.specs.declared.JudgeFileAnswer.{JudgeFileAnswer}
-use Rattle.file.specs.declared.JudgeFileAnswer.the-variants as judgeFile
-use Rattle.file.specs.declared.ShowFileAnswer.{ShowFileAnswer}
-use Rattle.file.specs.declared.ShowFileAnswer.the-variants as showFile
-use Rattle.file.specs.File.{startBy, startOf, startFields, sameClass, readIn, readPart, readBy, readFileOf, rowsBy, rowsLeft, judgeIn}
-use Rattle.file.specs.File.{judgePart, judgeBy, judgeFileOf, showIn, showPart, showBy, showFileOf, imageIn, imagePart, imageLeftBy}
-use Rattle.file.specs.File.{imageLeft, readFields, judgeFields, showFields}
+use Rattle.file_read.specs.declared.Start.the-variants as start
+use Rattle.file_read.specs.declared.ReadFileAnswer.the-variants as readFile
+use Rattle.file_judge.specs.declared.JudgeFileAnswer.{JudgeFileAnswer}
+use Rattle.file_judge.specs.declared.JudgeFileAnswer.the-variants as judgeFile
+use Rattle.file_show.specs.declared.ShowFileAnswer.{ShowFileAnswer}
+use Rattle.file_show.specs.declared.ShowFileAnswer.the-variants as showFile
+use Rattle.file_read.specs.ReadFile.{startBy, startOf, startFields, sameClass, readIn, readPart, readBy, readFileOf, readFields}
+use Rattle.file_read.specs.ReadFile.{rowsBy, rowsLeft}
+use Rattle.file_judge.specs.JudgeFile.{judgeIn, judgePart, judgeBy, judgeFileOf, judgeFields}
+use Rattle.file_show.specs.ShowFile.{showIn, showPart, showBy, showFileOf, imageIn, imagePart, imageLeftBy, imageLeft, showFields}
 use Rattle.searches.specs.Reported.{reportedOf}
-use Rattle.file.specs.Searches.{searchesFileOf}
+use Rattle.file_judge.specs.Searches.{searchesFileOf}
 use Rattle.file_same.specs.Files as files
+
+-- Two constructors are never equal: where an equation says so, `cc` finds that 0 is 1.
+clash : {A : Type 0} → _≡_ {A = ℕ} 0 1 → A
+clash z = absurd (omega arith)
 
 -- ---- Answers with 18 put in
 
@@ -79,9 +85,9 @@ meta-at : (m : Meta) {from : ℕ} → startBy m ≡ start.At from → (a : ℕ) 
 meta-at (head.Good k a b) {from} e =
     let q : k ≡ from = cc in
     (a, (b, ap (λ (x : ℕ). head.Good x a b) q))
-meta-at head.NoMark e = let z : _≡_ {A = ℕ} 0 1 = cc in absurd (omega arith)
-meta-at head.BadHead e = let z : _≡_ {A = ℕ} 0 1 = cc in absurd (omega arith)
-meta-at head.OtherSyntax e = let z : _≡_ {A = ℕ} 0 1 = cc in absurd (omega arith)
+meta-at head.NoMark e = clash cc
+meta-at head.BadHead e = clash cc
+meta-at head.OtherSyntax e = clash cc
 
 starts : (s : List ℕ) {from : ℕ} → startOf s ≡ start.At from → (a : ℕ) × ((b : ℕ) × (metaOf s ≡ head.Good from a b))
 unfolding startOf
@@ -142,33 +148,24 @@ module _ (s : List ℕ) (from a b : ℕ) (e : metaOf s ≡ head.Good from a b) w
 -- ---- Demand 2
 
 done-reads : (o : Reading) (buffer : List ℕ) (n : ℕ) → answer.Done n ≡ answerOf o buffer → (rows : List Row) × (o ≡ read rows)
-done-reads tooLarge buffer n e = let z : _≡_ {A = ℕ} 0 1 = cc in absurd (omega arith)
-done-reads (refusedAt code offset) buffer n e = let z : _≡_ {A = ℕ} 0 1 = cc in absurd (omega arith)
+done-reads tooLarge buffer n e = clash cc
+done-reads (refusedAt code offset) buffer n e = clash cc
 done-reads (read rows) buffer n e = (rows, refl)
 
-accepted-by : (f : Finding) (r : ReadAnswer) (n : ℕ) → answerFor f r ≡ judged.Accepted n → (answer.Done n ≡ r) × (f ≡ finding.Accepted)
-accepted-by finding.Accepted (answer.Done m) n e =
-    let q : m ≡ n = cc in
-    (ap answer.Done (sym q), refl)
-accepted-by (finding.Broken rule frame) (answer.Done m) n e = let z : _≡_ {A = ℕ} 0 1 = cc in absurd (omega arith)
-accepted-by f (answer.Refused code offset) n e = let z : _≡_ {A = ℕ} 0 1 = cc in absurd (omega arith)
-accepted-by f answer.TooLarge n e = let z : _≡_ {A = ℕ} 0 1 = cc in absurd (omega arith)
-accepted-by f answer.NoRoom n e = let z : _≡_ {A = ℕ} 0 1 = cc in absurd (omega arith)
-
 broken-by : (f : Finding) (r : ReadAnswer) (n rule frame : ℕ) → answerFor f r ≡ judged.Broken n rule frame → f ≡ finding.Broken rule frame
-broken-by finding.Accepted (answer.Done m) n rule frame e = let z : _≡_ {A = ℕ} 0 1 = cc in absurd (omega arith)
+broken-by finding.Accepted (answer.Done m) n rule frame e = clash cc
 broken-by (finding.Broken rule′ frame′) (answer.Done m) n rule frame e =
     let q : rule′ ≡ rule = cc in
     let p : frame′ ≡ frame = cc in
     cc
-broken-by f (answer.Refused code offset) n rule frame e = let z : _≡_ {A = ℕ} 0 1 = cc in absurd (omega arith)
-broken-by f answer.TooLarge n rule frame e = let z : _≡_ {A = ℕ} 0 1 = cc in absurd (omega arith)
-broken-by f answer.NoRoom n rule frame e = let z : _≡_ {A = ℕ} 0 1 = cc in absurd (omega arith)
+broken-by f (answer.Refused code offset) n rule frame e = clash cc
+broken-by f answer.TooLarge n rule frame e = clash cc
+broken-by f answer.NoRoom n rule frame e = clash cc
 
 judge-accepted : (t buffer : List ℕ) (n : ℕ) → judgeOf t buffer ≡ judged.Accepted n → IsAccepted t
 unfolding judgeOf
 judge-accepted t buffer n e =
-    let p = accepted-by (findingOf (nodesOf t)) (answerOf (readingOf t) buffer) n e in
+    let p = accepted-parts (findingOf (nodesOf t)) (answerOf (readingOf t) buffer) n (sym e) in
     let r = done-reads (readingOf t) buffer n (p .0) in
     record { rows = r .0; reads = r .1; sound = p .1 }
 
@@ -194,8 +191,7 @@ judged-same {x} {p} {q} e f =
 judged-other : {x : JudgeFileAnswer} {p : JudgeAnswer} → x ≡ judgeFile.Judged p → x ≡ judgeFile.OtherClass → ⊥
 judged-other {x} {p} e f =
     let g : judgeFile.Judged p ≡ judgeFile.OtherClass = sym e ∙ f in
-    let z : _≡_ {A = ℕ} 0 1 = cc in
-    absurd (omega arith)
+    clash cc
 
 of-2 : (s : List ℕ) (from : ℕ) → files.AsBare s from → files.Demand2Inside s from
 of-2 s from w =

@@ -24,13 +24,14 @@ use Rattle.display.specs.Show.{imageSize, showOf, imageOf}
 use Rattle.display.specs.Drawing.{IsAccepted, IsFrame, HasRoom}
 use Rattle.linear.specs.Demand3.{Promise}
 use Rattle.searches.specs.Reported.{reportedOf}
-use Rattle.file.specs.declared.Start.the-variants as start
-use Rattle.file.specs.declared.ReadFileAnswer.the-variants as readFile
-use Rattle.file.specs.declared.JudgeFileAnswer.the-variants as judgeFile
-use Rattle.file.specs.declared.ShowFileAnswer.the-variants as showFile
-use Rattle.file.specs.File.{startOf, startFields, readFileOf, rowsLeft, judgeFileOf, showFileOf, imageLeft, readFields, judgeFields}
-use Rattle.file.specs.File.{showFields}
-use Rattle.file.specs.Searches.{searchesFileOf}
+use Rattle.file_read.specs.declared.Start.the-variants as start
+use Rattle.file_read.specs.declared.ReadFileAnswer.the-variants as readFile
+use Rattle.file_judge.specs.declared.JudgeFileAnswer.the-variants as judgeFile
+use Rattle.file_show.specs.declared.ShowFileAnswer.the-variants as showFile
+use Rattle.file_read.specs.ReadFile.{startOf, startFields, readFileOf, rowsLeft, readFields}
+use Rattle.file_judge.specs.JudgeFile.{judgeFileOf, judgeFields}
+use Rattle.file_show.specs.ShowFile.{showFileOf, imageLeft, showFields}
+use Rattle.file_judge.specs.Searches.{searchesFileOf}
 
 -- The calls on a file s whose data set starts at `from`, beside the bare calls on that part.
 pub record AsBare (s : List ℕ) (from : ℕ) : Type 0 where

@@ -11,8 +11,7 @@ use denote.Ref.{RefT}
 use Rattle.basics.specs.Bytes.{leNumber}
 use Rattle.dataset.specs.Tree.{rowsOf, rowAt}
 use Rattle.pixel.specs.declared.Geometry.{Geometry}
-use Rattle.pixel.specs.Pixel.{samplesOf, sampleAt}
-use Rattle.pixel.specs.Contracts.{cellAt}
+use Rattle.pixel.specs.Pixel.{samplesOf, sampleAt, cellAt}
 use Rattle.pixel.proofs.Laws.{sample-cell}
 use Rattle.frame.specs.declared.FrameView.{FrameView}
 use Rattle.frame.specs.View.{Part, IsView, InDataSet, frameSize}

@@ -6,8 +6,7 @@ use lib.ListN.{length, take, drop}
 use denote.Ref.{RefT}
 use Rattle.dataset.specs.Tree.{rowsOf, rowAt}
 use Rattle.pixel.specs.declared.Geometry.{Geometry}
-use Rattle.pixel.specs.Pixel.{samplesOf, sampleAt}
-use Rattle.pixel.specs.Contracts.{cellAt}
+use Rattle.pixel.specs.Pixel.{samplesOf, sampleAt, cellAt}
 use Rattle.frame.specs.declared.FrameView.{FrameView}
 
 -- The reference r is the part of the lent slice s that starts at `at` and has n bytes: it points into the same memory, `at` bytes on, so
@@ -21,12 +20,6 @@ pub record Part (s : RefT (List ℕ)) (at n : ℕ) (r : RefT (List ℕ)) : Type 
 -- The bytes of a frame.
 abbrev pub frameSize : ℕ → ℕ → ℕ → ℕ
 frameSize rows columns width = rows * columns * width
-
--- Frames of this size, up to f, lie inside l pixel bytes.
-pub record Fits (rows columns width f l : ℕ) : Type 0 where
-  pub first : 1 ≤ f
-  pub some : 1 ≤ width
-  pub inside : f * frameSize rows columns width ≤ l
 
 -- The view of frame f of the pixel bytes: exactly that frame's bytes, with its numbers of rows and columns.
 pub record IsView (pixels : RefT (List ℕ)) (rows columns width f : ℕ) (v : FrameView) : Type 0 where

@@ -4,11 +4,12 @@ ghost use lib.ListN.{length};
 ghost use Rattle.dataset.specs.Tree.{rowsOf, rowAt};
 ghost use Rattle.node.specs.Nodes.{nodesOf};
 ghost use Rattle.node.specs.Contracts.{Table};
-ghost use Rattle.frame.specs.View.{Part, IsView, Fits, frameSize};
+ghost use Rattle.frame.specs.View.{Part, IsView, frameSize};
+ghost use Rattle.frame.specs.Contracts.{Fits};
 use basics::wider;
 use dataset::WIDTH;
 
-// A frame: its bytes, the number of its rows and of its columns.
+// A frame: its bytes, the number of its rows and of its columns. Public, since display/specs/FrameBytes speaks of it.
 pub struct FrameView<'a> {
     pub samples: &'a [u8],
     pub rows: usize,
@@ -95,6 +96,6 @@ pub fn value_part<'a, 'b>(bytes: &'a [u8], rows: &'b [u32], p: usize) -> &'a [u8
     ensures { λ r. ⌜ Part (bytes .entry) (rowAt (rowsOf (now (bytes .entry))) p .offset) (rowAt (rowsOf (now (bytes .entry))) p .size) r ⌝ }
 {
     let start = wider(rows[WIDTH * p + dataset::OFFSET]);
-    let end = start + wider(rows[WIDTH * p + dataset::LENGTH]);
+    let end = start + wider(rows[WIDTH * p + dataset::SIZE]);
     &bytes[start..end]
 }

@@ -1,4 +1,5 @@
--- IDs along items: an ID among those that follow, no ID twice, and marks in a table.
+-- No ID stands twice exactly if none is among those that follow it, and exactly if none is marked already when it is reached: the marks are
+-- those of the items before.
 use mathlib.Core.Path.{_≡_, refl, sym}
 use Prim.Native.Nat.{ℕ, zero, suc, _≤_, _<_}
 use mathlib.Core.List.{List, [], _∷_}

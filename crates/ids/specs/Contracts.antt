@@ -1,4 +1,4 @@
--- IDs of items as the code reads them, and the table in which they are marked. None of this is in document 01.
+-- IDs of items as the code reads them, and the table in which they are marked. None of this is in the papers.
 use mathlib.Core.Path.{_≡_}
 use Prim.Native.Nat.{ℕ}
 use mathlib.Core.List.{List, map}

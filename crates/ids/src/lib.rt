@@ -28,10 +28,7 @@ fn id_of(bytes: &[u8], rows: &[u32], item: usize) -> usize
     ensures { λ r. ⌜ r ≡ idOf (nodesOf (now (bytes .entry))) item ⌝ }
     ensures { λ r. ⌜ r < 65536 ⌝ }
 {
-    match element::us_item(bytes, rows, item, tags::SUBTRACTION_ITEM_ID) {
-        Num::None => 0,
-        Num::Is(n) => n,
-    }
+    value::number_or_0(element::us_item(bytes, rows, item, tags::SUBTRACTION_ITEM_ID))
 }
 
 // Whether an ID is among those of the items from `from` up to `to`.

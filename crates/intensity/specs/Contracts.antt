@@ -1,20 +1,20 @@
--- What the functions of this crate require of and promise each other. None of this is in the papers.
-use Prim.Native.Nat.{ℕ, _<_}
-use mathlib.Core.List.{List}
-use mathlib.Core.Bool.{Bool, cond, _&&_, true}
-use lib.ListN.{length}
-use lib.Dec.{eqb, leb}
-use Rattle.node.specs.Nodes.{Node, inside, members}
-use Rattle.node.specs.Find.{find}
-use Rattle.value.specs.declared.Num.{Num}
-use Rattle.value.specs.declared.Num.the-variants.{Is, None}
-use Rattle.basics.specs.Tags
-use Rattle.element.specs.Elements.{oneItem}
-use Rattle.rules.specs.Intensity.{areLuts, isLutGroup, hasLinear, isLog, isLinear, linearAmong}
-use mathlib.Core.Path.{_≡_}
-
 -- How the code takes rule 39 apart: each of its two functional groups gets a grade, 0 if it is broken, and the rule compares the two.
 -- None of this is in the papers; `Rattle.rules` has the rule.
+use mathlib.Core.Path.{_≡_}
+use mathlib.Core.Bool.{Bool, cond, _&&_, true}
+use mathlib.Core.List.{List}
+use Prim.Native.Nat.{ℕ, _<_}
+use lib.ListN.{length}
+use lib.Dec.{eqb, leb}
+use Rattle.basics.specs.Tags
+use Rattle.value.specs.declared.Num.{Num}
+use Rattle.value.specs.declared.Num.the-variants.{Is, None}
+use Rattle.node.specs.Nodes.{Node, inside, members}
+use Rattle.node.specs.Find.{find}
+use Rattle.element.specs.Elements.{oneItem}
+use Rattle.rules.specs.Intensity.{areLuts, isLutGroup, hasLinear, isLog, isLinear, linearAmong}
+
+-- ---- Grades
 
 -- Broken; good; good, and LOG or with a TO_LINEAR item.
 abbrev pub grade : Bool → Bool → ℕ
@@ -41,10 +41,10 @@ unfoldable pub tableIn : List Node → ℕ → ℕ → ℕ
 tableIn ns i otherwise = gradeOn (find ns Tags.PixelIntensityRelationshipLUTSequence (inside ns i)) (tableOf ns) otherwise
 
 -- Rule 39 by the grades of the frame's two groups.
-abbrev pub agree : ℕ → ℕ → Bool
-agree relation table = leb 1 relation && leb relation table
+abbrev pub gradesAgree : ℕ → ℕ → Bool
+gradesAgree relation table = leb 1 relation && leb relation table
 
--- Where a search for a TO_LINEAR item stops.
+-- ---- Where a search for a TO_LINEAR item stops
 
 pub record Stops (ns : List Node) (from to r : ℕ) : Type 0 where
   pub same : linearAmong ns (members ns r to) ≡ linearAmong ns (members ns from to)

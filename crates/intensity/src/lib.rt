@@ -5,7 +5,7 @@ ghost use lib.ListN.{length};
 ghost use Rattle.node.specs.Nodes.{nodesOf, members};
 ghost use Rattle.node.specs.Contracts.{Table};
 ghost use Rattle.rules.specs.Intensity.{isLinear, linearAmong, entryCount, isLut, hasLut};
-ghost use Rattle.intensity.specs.Contracts.{agree, relationOf, lutsOf, tableOf, relationIn, tableIn, Stops};
+ghost use Rattle.intensity.specs.Contracts.{gradesAgree, relationOf, lutsOf, tableOf, relationIn, tableIn, Stops};
 use basics::tags;
 use basics::u16_at;
 use basics::vrs;
@@ -133,7 +133,7 @@ pub fn relation_in(bytes: &[u8], rows: &[u32], item: usize, otherwise: usize) ->
     requires { ⌜ Table (now bytes) (now rows) × (item < length (nodesOf (now bytes))) ⌝ }
     ensures { λ r. ⌜ r ≡ relationIn (nodesOf (now (bytes .entry))) item otherwise ⌝ }
 {
-    match element::find_item(
+    match node::find_in_item(
         bytes,
         rows,
         item,
@@ -148,7 +148,7 @@ pub fn table_in(bytes: &[u8], rows: &[u32], item: usize, otherwise: usize) -> us
     requires { ⌜ Table (now bytes) (now rows) × (item < length (nodesOf (now bytes))) ⌝ }
     ensures { λ r. ⌜ r ≡ tableIn (nodesOf (now (bytes .entry))) item otherwise ⌝ }
 {
-    match element::find_item(
+    match node::find_in_item(
         bytes,
         rows,
         item,
@@ -160,8 +160,8 @@ pub fn table_in(bytes: &[u8], rows: &[u32], item: usize, otherwise: usize) -> us
 }
 
 // Whether the two grades of a frame agree.
-pub fn do_agree(relation: usize, table: usize) -> bool
-    ensures { λ r. ⌜ r ≡ agree relation table ⌝ }
+pub fn grades_agree(relation: usize, table: usize) -> bool
+    ensures { λ r. ⌜ r ≡ gradesAgree relation table ⌝ }
 {
     if 1 <= relation {
         relation <= table

@@ -14,7 +14,7 @@ use Rattle.dataset.proofs.Buffer.{length-flat}
 use Rattle.dataset.proofs.Laws.{row-count}
 use Rattle.node.specs.Nodes.{nodesOf}
 use Rattle.conformance.specs.Judging.{findingOf, answerFor, judgeOf}
-use Rattle.judge_small.specs.Contracts.{roomyOf}
+use Rattle.judge_small.specs.Printed.{judgePrinted}
 
 same-answer : (s buffer : List ℕ) → width * length s ≤ 8 * length buffer
     → answerOf (readingOf s) buffer ≡ answerOf (readingOf s) (flat (rowsOf s))
@@ -30,6 +30,6 @@ same-answer s buffer h = by-reading (readingOf s) (row-count s)
           le-leb (width * length rows) (length (flat rows)) (omega (arith, length-flat rows)),
         )
 
-pub roomy : (s buffer : List ℕ) → width * length s ≤ 8 * length buffer → judgeOf s buffer ≡ roomyOf s
+pub roomy : (s buffer : List ℕ) → width * length s ≤ 8 * length buffer → judgeOf s buffer ≡ judgePrinted s
 unfolding judgeOf
 roomy s buffer h = ap (λ (a : ReadAnswer). answerFor (findingOf (nodesOf s)) a) (same-answer s buffer h)

@@ -1,11 +1,11 @@
--- The judge's answer if the row buffer is large enough.
+-- What a helper of judging answers. None of this is in the papers.
 use Prim.Native.Nat.{ℕ}
 use mathlib.Core.List.{List}
-use Rattle.dataset.specs.Answer.{flat}
-use Rattle.dataset.specs.Tree.{rowsOf}
-use Rattle.conformance.specs.declared.JudgeAnswer.{JudgeAnswer}
-use Rattle.conformance.specs.Judging.{judgeOf}
+use Rattle.node.specs.Nodes.{Node}
+use Rattle.conformance.specs.declared.JudgeAnswer.the-variants as judged
+use Rattle.judge_small.specs.declared.Located.{Located}
+use Rattle.judge_small.specs.Located.{located}
 
--- With a buffer that the rows exactly fill; a larger one gives the same answer.
-abbrev pub roomyOf : List ℕ → JudgeAnswer
-roomyOf s = judgeOf s (flat (rowsOf s))
+-- The answer that a rule is broken, with its row.
+abbrev pub brokenAt : List Node → ℕ → ℕ → ℕ → Located
+brokenAt ns n rule frame = located ns (judged.Broken n rule frame)

@@ -1,2 +1,3 @@
-pub mod Contracts
+pub mod Printed
 pub mod Located
+pub mod Contracts

@@ -7,8 +7,9 @@ ghost use Prim.Native.Nat.{_≤_};
 ghost use lib.ListN.{length};
 ghost use Rattle.node.specs.Nodes.{nodesOf};
 ghost use Rattle.node.specs.Contracts.{Table};
-ghost use Rattle.judge_small.specs.Contracts.{roomyOf};
-ghost use Rattle.judge_small.specs.Located.{itemRow, brokenAt, locatedOf};
+ghost use Rattle.judge_small.specs.Printed.{judgePrinted};
+ghost use Rattle.judge_small.specs.Contracts.{brokenAt};
+ghost use Rattle.judge_small.specs.Located.{itemRow, locatedPrinted};
 
 // The judge's answer and, if a broken rule names a frame, the number of the row of that frame's item, counted from 1; otherwise 0.
 pub struct Located {
@@ -19,20 +20,17 @@ pub struct Located {
 // What the judge answers; never code 8.
 pub fn judge_small(bytes: &[u8]) -> JudgeAnswer
     requires { ⌜ length (now bytes) ≤ 65536 ⌝ }
-    ensures { λ r. ⌜ r ≡ roomyOf (now (bytes .entry)) ⌝ }
+    ensures { λ r. ⌜ r ≡ judgePrinted (now (bytes .entry)) ⌝ }
 {
     let mut rows = row_buffer();
     conformance::judge(bytes, &mut rows)
 }
 
-// The row of the item of a frame that a broken rule names; there is no frame 0.
+// The row of the item of a frame that a broken rule names; there is no item 0.
 fn item_row(bytes: &[u8], rows: &[u32], frame: usize) -> usize
     requires { ⌜ Table (now bytes) (now rows) ⌝ }
     ensures { λ r. ⌜ r ≡ itemRow (nodesOf (now (bytes .entry))) frame ⌝ }
 {
-    if frame == 0 {
-        return 0;
-    }
     match steps::item_at(bytes, rows, frame) {
         Num::Is(i) => i + 1,
         Num::None => 0,
@@ -54,7 +52,7 @@ fn broken_at(bytes: &[u8], rows: &[u32], count: usize, rule: usize, frame: usize
 // What the judge answers, and the row that it is about.
 pub fn judge_located(bytes: &[u8]) -> Located
     requires { ⌜ length (now bytes) ≤ 65536 ⌝ }
-    ensures { λ r. ⌜ r ≡ locatedOf (now (bytes .entry)) ⌝ }
+    ensures { λ r. ⌜ r ≡ locatedPrinted (now (bytes .entry)) ⌝ }
 {
     let mut rows = row_buffer();
     let answer = conformance::judge(bytes, &mut rows);

@@ -8,6 +8,7 @@ use Prim.Native.String.{String}
 use mathlib.Core.Bool.{Bool, true, false}
 use mathlib.Core.List.{List, [], _∷_, _++_}
 use mathlib.Core.Option.{Option, none, some}
+use Rattle.basics.specs.Tags
 use Rattle.node.specs.Nodes.{nodesOf}
 use Rattle.conformance.specs.Judging.{judgeOf, fieldsOf}
 use Rattle.steps.specs.Steps.{Picture, maskedCell, stepsOf}
@@ -48,27 +49,27 @@ lacks bytes frame = stepped bytes frame none
 -- ---- The parts of a data set, as they should be: two frames of one row and two cells of 8 bits
 
 abbrev pub photometric : List ℕ
-photometric = short 0x0028 0x0004 "CS" (ascii "MONOCHROME2 ")
+photometric = short Tags.PhotometricInterpretation "CS" (ascii "MONOCHROME2 ")
 
 abbrev pub numberOfTwo : List ℕ
-numberOfTwo = short 0x0028 0x0008 "IS" (ascii "2 ")
+numberOfTwo = short Tags.NumberOfFrames "IS" (ascii "2 ")
 
 abbrev pub height : List ℕ
-height = short 0x0028 0x0010 "US" (two 1)
+height = short Tags.Rows "US" (two 1)
 
 -- Columns, Bits Allocated, Bits Stored.
 abbrev pub cells : ℕ → ℕ → List ℕ
 cells columns allocated =
-    short 0x0028 0x0011 "US" (two columns) ++ (short 0x0028 0x0100 "US" (two allocated) ++ short 0x0028 0x0101 "US" (two 8))
+    short Tags.Columns "US" (two columns) ++ (short Tags.BitsAllocated "US" (two allocated) ++ short Tags.BitsStored "US" (two 8))
 
 abbrev pub shared : List ℕ → List ℕ
-shared groups = sequence 0x5200 0x9229 (item groups)
+shared groups = sequence Tags.SharedFunctionalGroupsSequence (item groups)
 
 abbrev pub perFrameGroups : List ℕ
-perFrameGroups = sequence 0x5200 0x9230 (item [] ++ item [])
+perFrameGroups = sequence Tags.PerFrameFunctionalGroupsSequence (item [] ++ item [])
 
 abbrev pub pixels : List ℕ
-pixels = long 0x7FE0 0x0010 "OB" (10 ∷ 20 ∷ 30 ∷ 40 ∷ [])
+pixels = long Tags.PixelData "OB" (10 ∷ 20 ∷ 30 ∷ 40 ∷ [])
 
 -- With another start, or with another rest.
 abbrev pub started : List ℕ → List ℕ
@@ -82,7 +83,7 @@ abbrev pub withMask : List ℕ → List ℕ
 withMask mask = ended (mask ++ (shared [] ++ (perFrameGroups ++ pixels)))
 
 abbrev pub numbers : List ℕ → List ℕ
-numbers value = short 0x0028 0x6110 "US" value
+numbers value = short Tags.MaskFrameNumbers "US" value
 
 abbrev pub maskOfFirst : List ℕ
 maskOfFirst = numbers (two 1)
@@ -107,24 +108,24 @@ abbrev pub notANumber : List ℕ
 notANumber = 0x00 ∷ 0x00 ∷ 0xC0 ∷ 0x7F ∷ []
 
 abbrev pub itemShiftOf : List ℕ → List ℕ
-itemShiftOf value = short 0x0028 0x6114 "FL" value
+itemShiftOf value = short Tags.MaskSubPixelShift "FL" value
 
 -- Subtraction Item ID, and Frame Pixel Shift with items.
 abbrev pub itemId : ℕ → List ℕ
-itemId id = short 0x0028 0x9416 "US" (two id)
+itemId id = short Tags.SubtractionItemID "US" (two id)
 
 abbrev pub frameShifts : List ℕ → List ℕ
-frameShifts items = sequence 0x0028 0x9415 items
+frameShifts items = sequence Tags.FramePixelShiftSequence items
 
 -- Frame VOI LUT with the elements of its one item.
 abbrev pub voiOf : List ℕ → List ℕ
-voiOf elements = sequence 0x0028 0x9132 (item elements)
+voiOf elements = sequence Tags.FrameVOILUTSequence (item elements)
 
 abbrev pub center : String → List ℕ
-center text = short 0x0028 0x1050 "DS" (ascii text)
+center text = short Tags.WindowCenter "DS" (ascii text)
 
 abbrev pub windowWidth : String → List ℕ
-windowWidth text = short 0x0028 0x1051 "DS" (ascii text)
+windowWidth text = short Tags.WindowWidth "DS" (ascii text)
 
 -- ---- The cases
 
@@ -140,32 +141,32 @@ lacking =
     ∷ lacks (withMask (average (numbers (two 3)))) 2
     -- "the shared item or item f where it opens one"
     ∷ lacks (ended (perFrameGroups ++ pixels)) 2
-    ∷ lacks (ended (sequence 0x5200 0x9229 [] ++ (perFrameGroups ++ pixels))) 2
+    ∷ lacks (ended (sequence Tags.SharedFunctionalGroupsSequence [] ++ (perFrameGroups ++ pixels))) 2
     ∷ lacks (ended (shared [] ++ pixels)) 2
-    ∷ lacks (ended (shared [] ++ (sequence 0x5200 0x9230 (item []) ++ pixels))) 2
+    ∷ lacks (ended (shared [] ++ (sequence Tags.PerFrameFunctionalGroupsSequence (item []) ++ pixels))) 2
     -- "the one item of a VOI group"
-    ∷ lacks (withGroups (sequence 0x0028 0x9132 [])) 2
-    ∷ lacks (withGroups (sequence 0x0028 0x9132 (item (center "40" ++ windowWidth "10") ++ item []))) 2
+    ∷ lacks (withGroups (sequence Tags.FrameVOILUTSequence [])) 2
+    ∷ lacks (withGroups (sequence Tags.FrameVOILUTSequence (item (center "40" ++ windowWidth "10") ++ item []))) 2
     -- "at least one of a Frame Pixel Shift"
     ∷ lacks (withShifts (average (maskOfFirst ++ itemId 7)) (frameShifts [])) 2
     -- "values of the VR, count and form it reads": the cells' size,
     ∷ lacks (started (photometric ++ (numberOfTwo ++ cells 2 8))) 2
-    ∷ lacks (started (photometric ++ (numberOfTwo ++ (short 0x0028 0x0010 "SS" (two 1) ++ cells 2 8)))) 2
-    ∷ lacks (started (photometric ++ (numberOfTwo ++ (short 0x0028 0x0010 "US" (two 1 ++ two 1) ++ cells 2 8)))) 2
+    ∷ lacks (started (photometric ++ (numberOfTwo ++ (short Tags.Rows "SS" (two 1) ++ cells 2 8)))) 2
+    ∷ lacks (started (photometric ++ (numberOfTwo ++ (short Tags.Rows "US" (two 1 ++ two 1) ++ cells 2 8)))) 2
     ∷ lacks (started (photometric ++ (numberOfTwo ++ (height ++ cells 2 12)))) 2
     -- the pixel bytes and the word of step 7,
     ∷ lacks (ended (shared [] ++ perFrameGroups)) 2
-    ∷ lacks (ended (shared [] ++ (perFrameGroups ++ long 0x7FE0 0x0010 "UN" (10 ∷ 20 ∷ 30 ∷ 40 ∷ [])))) 2
+    ∷ lacks (ended (shared [] ++ (perFrameGroups ++ long Tags.PixelData "UN" (10 ∷ 20 ∷ 30 ∷ 40 ∷ [])))) 2
     ∷ lacks (started (numberOfTwo ++ (height ++ cells 2 8))) 2
-    ∷ lacks (started (short 0x0028 0x0004 "LO" (ascii "MONOCHROME2 ") ++ (numberOfTwo ++ (height ++ cells 2 8)))) 2
-    ∷ lacks (started (short 0x0028 0x0004 "CS" (ascii "MONOCHROME\\X") ++ (numberOfTwo ++ (height ++ cells 2 8)))) 2
+    ∷ lacks (started (short Tags.PhotometricInterpretation "LO" (ascii "MONOCHROME2 ") ++ (numberOfTwo ++ (height ++ cells 2 8)))) 2
+    ∷ lacks (started (short Tags.PhotometricInterpretation "CS" (ascii "MONOCHROME\\X") ++ (numberOfTwo ++ (height ++ cells 2 8)))) 2
     -- the mask items, their ranges, operations, frames and offsets,
-    ∷ lacks (withMask (long 0x0028 0x6100 "UN" [])) 2
-    ∷ lacks (withMask (average (short 0x0028 0x6102 "US" (two 1 ++ (two 2 ++ two 2)) ++ maskOfFirst))) 2
+    ∷ lacks (withMask (long Tags.MaskSubtractionSequence "UN" [])) 2
+    ∷ lacks (withMask (average (short Tags.ApplicableFrameRange "US" (two 1 ++ (two 2 ++ two 2)) ++ maskOfFirst))) 2
     ∷ lacks (withMask (maskedBy "REV_TID " [])) 2
     ∷ lacks (withMask (average [])) 2
-    ∷ lacks (withMask (average (short 0x0028 0x6110 "SS" (two 1)))) 2
-    ∷ lacks (withMask (maskedBy "TID " (short 0x0028 0x6120 "SS" (two 1 ++ two 1)))) 2
+    ∷ lacks (withMask (average (short Tags.MaskFrameNumbers "SS" (two 1)))) 2
+    ∷ lacks (withMask (maskedBy "TID " (short Tags.TIDOffset "SS" (two 1 ++ two 1)))) 2
     ∷ lacks (photometric ++ (height ++ (cells 2 8 ++ (maskedBy "TID " [] ++ (shared [] ++ (perFrameGroups ++ pixels)))))) 2
     -- shifts of the item and of the frame,
     ∷ lacks (withMask (average (maskOfFirst ++ itemShiftOf floatOne))) 2
@@ -179,7 +180,7 @@ lacking =
     ∷ lacks (withGroups (voiOf (windowWidth "10"))) 2
     ∷ lacks (withGroups (voiOf (center "4X" ++ windowWidth "10"))) 2
     ∷ lacks (withGroups (voiOf (center "40"))) 2
-    ∷ lacks (withGroups (voiOf (center "40" ++ (windowWidth "10" ++ short 0x0028 0x1056 "CS" (ascii "SIGMOID "))))) 2
+    ∷ lacks (withGroups (voiOf (center "40" ++ (windowWidth "10" ++ short Tags.VOILUTFunction "CS" (ascii "SIGMOID "))))) 2
     -- "a divisor above 0 where it divides": the average of no frame
     ∷ lacks (withMask (average (numbers []))) 2
     ∷ []

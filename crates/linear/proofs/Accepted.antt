@@ -23,6 +23,7 @@ use Rattle.conformance.specs.Judging.{findingOf}
 use Rattle.display.specs.Show.{imageSize}
 use Rattle.display.proofs.Small.{us-in-small}
 use Rattle.node.proofs.Tests.{same-is}
+use Rattle.display.proofs.Accepted.{shape-of}
 use Rattle.display.proofs.Objects.{object}
 use Rattle.display.proofs.Rules.{at-items, group-is, r39}
 use Rattle.display.proofs.Lacking.{geometry-size}
@@ -74,16 +75,8 @@ mappable s b ok n f j count low high e most room =
       geometry = o .geometry;
       v = o .v;
       pixels = o .pixels;
-      shape = record {
-        width = o .width;
-        stored-some = o .stored-low;
-        stored-most = o .stored-high;
-        rows-some = o .rows-low;
-        rows-most = o .rows-high;
-        columns-some = o .columns-low;
-        columns-most = o .columns-high;
-      };
-      inside = o .whole f low (omega arith);
+      shape = shape-of o;
+      inside = o .inside f low (omega arith);
       room = omega (arith, geometry-size ns (o .g) (o .geometry));
       lut = item-lut ns ok n f j count low high e;
     }

@@ -18,7 +18,7 @@ use Rattle.display.proofs.Judged.{judged-by}
 use Rattle.display.proofs.Answers.{none-frame, low-frame, high-frame}
 use Rattle.linear.specs.declared.LinearAnswer.{LinearAnswer}
 use Rattle.linear.specs.declared.LinearAnswer.the-variants as linear
-use Rattle.linear.specs.Mapping.{linearFor, isMapped, mappingBy, mappingOf}
+use Rattle.linear.specs.Mapping.{linearFor, hasLinearItem, mappingBy, mappingOf}
 use Rattle.linear.specs.Answer.{entriesIn, entriesOf, acceptedAnswer, answerFor, linearOf, valuesBy, valuesLeft, fieldsOf}
 
 -- The numbers by the item.
@@ -42,20 +42,20 @@ module _ (ns : List Node) (f : ℕ) (values : List ℕ) (count : ℕ) where
 
     module _ (low : 1 ≤ f) (high : f ≤ n) where
       pub item-lacks : linearFor ns f ≡ none → linear.NoItem ≡ acceptedAnswer ns f values count
-      unfolding acceptedAnswer isMapped
+      unfolding acceptedAnswer hasLinearItem
       item-lacks h = rw (e, le-leb 1 f low, le-leb f n high, h)
 
       pub item-absent : linearFor ns f ≡ some None → linear.NoItem ≡ acceptedAnswer ns f values count
-      unfolding acceptedAnswer isMapped
+      unfolding acceptedAnswer hasLinearItem
       item-absent h = rw (e, le-leb 1 f low, le-leb f n high, h)
 
       module _ (j : ℕ) (h : linearFor ns f ≡ some (Is j)) where
         pub no-room : length values < imageSize ns → linear.NoValuesRoom ≡ acceptedAnswer ns f values count
-        unfolding acceptedAnswer isMapped
+        unfolding acceptedAnswer hasLinearItem
         no-room k = rw (e, le-leb 1 f low, le-leb f n high, h, lt-leb (imageSize ns) (length values) k)
 
         pub is-mapped : imageSize ns ≤ length values → linear.Mapped count ≡ acceptedAnswer ns f values count
-        unfolding acceptedAnswer isMapped
+        unfolding acceptedAnswer hasLinearItem
         is-mapped k = rw (e, le-leb 1 f low, le-leb f n high, h, le-leb (imageSize ns) (length values) k)
 
 -- What `linear` answers and leaves in the values buffer, by what the judge answered.

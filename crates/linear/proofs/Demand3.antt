@@ -9,6 +9,7 @@ use native.Mathlib.Omega.{arith}
 use lib.ListN.{length, drop}
 use lib.Dec.{leb}
 use borrow.Author.Tests.{le-leb, leb-true}
+use Rattle.basics.proofs.Tests.{false-is-true}
 use Rattle.value.specs.Number.{numberOr0}
 use Rattle.basics.specs.Bytes.{IsBytes}
 use Rattle.dataset.specs.Tree.{rowsOf}
@@ -25,16 +26,16 @@ use Rattle.display.proofs.Lacking.{geometry-size}
 use Rattle.display.proofs.Drawing as display
 use Rattle.linear.specs.declared.LinearAnswer.{LinearAnswer}
 use Rattle.linear.specs.declared.LinearAnswer.the-variants as linear
-use Rattle.linear.specs.Mapping.{linearFor, isItem, isMapped, mappingBy, mappingOf}
+use Rattle.linear.specs.Mapping.{linearFor, isPresent, hasLinearItem, mappingBy, mappingOf}
 use Rattle.linear.specs.Answer.{entriesOf, acceptedAnswer, answerFor as linearFrom, linearOf, valuesLeft, fieldsOf}
-use Rattle.linear.specs.Demand3.{Mapped, Measured, Demand3}
+use Rattle.linear.specs.Demand3.{Mapped, LinearBack, Demand3}
 use Rattle.linear.proofs.Accepted.{mappable}
 use Rattle.linear.proofs.Maps as maps
 
 -- ---- Where there is room, the answer is the numbers
 
 module _ (s : List ℕ) (f : ℕ) (buffer values : List ℕ) where
-  answer-mapped : (n : ℕ) → IsFrame s f → isMapped (nodesOf s) f ≡ true → HasRoom s buffer values
+  answer-mapped : (n : ℕ) → IsFrame s f → hasLinearItem (nodesOf s) f ≡ true → HasRoom s buffer values
       → acceptedAnswer (nodesOf s) f values n ≡ linear.Mapped n
   unfolding acceptedAnswer
   answer-mapped n i m r =
@@ -45,7 +46,7 @@ module _ (s : List ℕ) (f : ℕ) (buffer values : List ℕ) where
         le-leb (imageSize (nodesOf s)) (length values) (r .cells),
       )
 
-  maps-to : (a : IsAccepted s) → IsFrame s f → isMapped (nodesOf s) f ≡ true → HasRoom s buffer values
+  maps-to : (a : IsAccepted s) → IsFrame s f → hasLinearItem (nodesOf s) f ≡ true → HasRoom s buffer values
       → linearOf s f buffer values ≡ linear.Mapped (length (rowsOf s))
   unfolding linearOf
   maps-to a i m r = rw (judged-accepted s buffer a (r .rows), answer-mapped (length (rowsOf s)) i m r)
@@ -55,14 +56,14 @@ module _ (s : List ℕ) (f : ℕ) (buffer values : List ℕ) where
   -- What the answer of an accepted object says of the frame, its item and the values buffer.
   record Taken (n : ℕ) : Type 0 where
     pub frame : IsFrame s f
-    pub item : isMapped (nodesOf s) f ≡ true
+    pub item : hasLinearItem (nodesOf s) f ≡ true
     pub cells : imageSize (nodesOf s) ≤ length values
 
   was-taken : (n : ℕ) → fieldsOf (acceptedAnswer (nodesOf s) f values n) .code ≡ 0 → Taken n
   unfolding acceptedAnswer
-  was-taken n e = go (isFrameOf (nodesOf s) f) (isMapped (nodesOf s) f) (leb (imageSize (nodesOf s)) (length values)) refl refl refl e
+  was-taken n e = go (isFrameOf (nodesOf s) f) (hasLinearItem (nodesOf s) f) (leb (imageSize (nodesOf s)) (length values)) refl refl refl e
     where
-      go : (t m u : Bool) → isFrameOf (nodesOf s) f ≡ t → isMapped (nodesOf s) f ≡ m → leb (imageSize (nodesOf s)) (length values) ≡ u
+      go : (t m u : Bool) → isFrameOf (nodesOf s) f ≡ t → hasLinearItem (nodesOf s) f ≡ m → leb (imageSize (nodesOf s)) (length values) ≡ u
           → fieldsOf (cond t (cond m (cond u (linear.Mapped n) linear.NoValuesRoom) linear.NoItem) linear.NoFrame) .code ≡ 0 → Taken n
       go true true true p w q e =
           record { frame = was-frame s f p; item = w; cells = leb-true (imageSize (nodesOf s)) (length values) q }
@@ -71,7 +72,7 @@ module _ (s : List ℕ) (f : ℕ) (buffer values : List ℕ) where
       go false m u p w q e = absurd (omega (arith, e))
 
   was-accepted : fieldsOf (linearOf s f buffer values) .code ≡ 0
-      → IsAccepted s × (IsFrame s f × ((isMapped (nodesOf s) f ≡ true) × HasRoom s buffer values))
+      → IsAccepted s × (IsFrame s f × ((hasLinearItem (nodesOf s) f ≡ true) × HasRoom s buffer values))
   unfolding linearOf
   was-accepted e =
       let j = was-judged s buffer (λ a. fieldsOf (linearFrom (nodesOf s) f values a) .code)
@@ -85,13 +86,13 @@ module _ (s : List ℕ) (f : ℕ) (buffer values : List ℕ) where
   unfolding entriesOf
   entries-is l e = rw e
 
-  values-is : (a : IsAccepted s) → IsFrame s f → isMapped (nodesOf s) f ≡ true → HasRoom s buffer values
+  values-is : (a : IsAccepted s) → IsFrame s f → hasLinearItem (nodesOf s) f ≡ true → HasRoom s buffer values
       → valuesLeft s f buffer values ≡ entriesOf (nodesOf s) f ++ drop (length (entriesOf (nodesOf s) f)) values
   unfolding valuesLeft
   values-is a i m r = rw (maps-to a i m r)
 
-  handed : (a : IsAccepted s) → IsFrame s f → isMapped (nodesOf s) f ≡ true → HasRoom s buffer values → Mapped (nodesOf s) f
-      → Measured s f buffer values
+  handed : (a : IsAccepted s) → IsFrame s f → hasLinearItem (nodesOf s) f ≡ true → HasRoom s buffer values → Mapped (nodesOf s) f
+      → LinearBack s f buffer values
   handed a i m r w =
       record {
         l = w .l;
@@ -106,18 +107,18 @@ module _ (s : List ℕ) (f : ℕ) (buffer values : List ℕ) where
 -- ---- The mapping lacks nothing
 
 -- The item that a frame has.
-item-of : (o : Option Num) → isItem o ≡ true → (j : ℕ) × (o ≡ some (Is j))
-item-of none e = let z : _≡_ {A = ℕ} 0 1 = cc in absurd (omega arith)
-item-of (some None) e = let z : _≡_ {A = ℕ} 0 1 = cc in absurd (omega arith)
+item-of : (o : Option Num) → isPresent o ≡ true → (j : ℕ) × (o ≡ some (Is j))
+item-of none e = absurd (false-is-true e)
+item-of (some None) e = absurd (false-is-true e)
 item-of (some (Is j)) e = (j, refl)
 
 mapping-by : (ns : List Node) (f j : ℕ) → linearFor ns f ≡ some (Is j) → mappingOf ns f ≡ mappingBy ns f j
 unfolding mappingOf
 mapping-by ns f j e = rw e
 
-whole : (s : List ℕ) → IsBytes s → (f : ℕ) → IsAccepted s → IsFrame s f → isMapped (nodesOf s) f ≡ true → Mapped (nodesOf s) f
-unfolding isMapped
-whole s b f a i m =
+lacks-nothing : (s : List ℕ) → IsBytes s → (f : ℕ) → IsAccepted s → IsFrame s f → hasLinearItem (nodesOf s) f ≡ true → Mapped (nodesOf s) f
+unfolding hasLinearItem
+lacks-nothing s b f a i m =
     let ns = nodesOf s in
     let o = object ns (λ tag k e. us-in-small s b tag k (root ns) e) (a .sound) in
     let h : f ≤ o .n = subst (λ (x : Num). f ≤ numberOr0 x) (o .frames) (i .high) in
@@ -132,10 +133,10 @@ pub demand-3 : Demand3
 demand-3 s b f =
     record {
       drawing = display.drawing s b f;
-      mappable = whole s b f;
+      mappable = lacks-nothing s b f;
       mapped = λ buffer values a i m r. ap (λ (x : LinearAnswer). fieldsOf x .code) (maps-to s f buffer values a i m r);
       nothing-else = was-accepted s f;
       as-mapped = λ buffer values e.
           let w = was-accepted s f buffer values e in
-          handed s f buffer values (w .0) (w .1 .0) (w .1 .1 .0) (w .1 .1 .1) (whole s b f (w .0) (w .1 .0) (w .1 .1 .0));
+          handed s f buffer values (w .0) (w .1 .0) (w .1 .1 .0) (w .1 .1 .1) (lacks-nothing s b f (w .0) (w .1 .0) (w .1 .1 .0));
     }

@@ -14,8 +14,8 @@ use Rattle.basics.proofs.Tests.{and-both}
 use Rattle.node.specs.Nodes.{Node, members}
 use Rattle.element.specs.Elements.{first}
 use Rattle.pixel.specs.declared.Geometry.{Geometry}
-use Rattle.pixel.specs.Pixel.{samplesOf, sampleAt}
-use Rattle.pixel.specs.Contracts.{Shaped, cellAt}
+use Rattle.pixel.specs.Pixel.{samplesOf, sampleAt, cellAt}
+use Rattle.pixel.specs.Contracts.{Shaped}
 use Rattle.pixel.proofs.Laws.{sample-cell}
 use Rattle.rules.specs.Intensity.{linearAmong, entryCount, isLut}
 use Rattle.intensity.specs.Contracts.{Stops}

@@ -1,11 +1,11 @@
 -- Mapping a frame whose parts are all there gives what the mapping says.
 use mathlib.Core.Path.{_≡_, sym, ap, _∙_, subst}
 use mathlib.Core.Bool.{true}
-use mathlib.Core.List.{List, [], _∷_, _++_}
+use mathlib.Core.List.{List, _++_}
 use mathlib.Core.Option.{Option, none, some}
-use Prim.Native.Nat.{ℕ, zero, suc, _≤_}
+use Prim.Native.Nat.{ℕ, _≤_}
 use native.Mathlib.Omega.{arith}
-use lib.ListN.{length, drop}
+use lib.ListN.{length, drop, replicate, length-replicate}
 use borrow.Author.Tests.{eq-eqb}
 use Rattle.value.specs.declared.Num.the-variants.{Is, None}
 use Rattle.basics.proofs.Tests.{false-is-true}
@@ -26,14 +26,6 @@ use Rattle.linear.specs.Mapping.{entryAt, entryOf, mappingBy}
 use Rattle.linear.specs.Answer.{entriesIn}
 use Rattle.linear.specs.Contracts.{MapReady, Mappable}
 use Rattle.linear.proofs.Laws.{lut-is, entry-is}
-
-abbrev zeros : ℕ → List ℕ
-zeros zero = []
-zeros (suc n) = 0 ∷ zeros n
-
-zeros-room : (n : ℕ) → n ≤ length (zeros n)
-zeros-room zero = omega arith
-zeros-room (suc n) = omega (arith, zeros-room n)
 
 module _ (ns : List Node) (f j most : ℕ) (m : Mappable ns f j most) where
   pub no-geometry : geometryOf ns ≡ none → ⊥
@@ -56,8 +48,8 @@ module _ (ns : List Node) (f j most : ℕ) (m : Mappable ns f j most) where
     unfolding hasLut
     lut = rw (ed, et) at (m .lut)
 
-    whole : isFrame g v f ≡ true
-    whole =
+    in-pixels : isFrame g v f ≡ true
+    in-pixels =
         subst (λ (x : Geometry). isFrame x v f ≡ true) (same-some (m .geometry) eg)
         (subst (λ (x : List ℕ). isFrame (m .g) x f ≡ true) (same-some (m .pixels) ev) (m .inside))
 
@@ -68,7 +60,7 @@ module _ (ns : List Node) (f j most : ℕ) (m : Mappable ns f j most) where
     ready values e =
         record {
           shape = subst Shaped (same-some (m .geometry) eg) (m .shape);
-          inside = whole;
+          inside = in-pixels;
           room = subst (λ (x : ℕ). samplesOf g ≤ x) e room;
           lut = lut;
         }
@@ -90,7 +82,7 @@ module _ (ns : List Node) (f j most : ℕ) (m : Mappable ns f j most) where
         (λ i k. entry-is (valueAt ns d) (valueAt ns t) lut (sampleAt g v f i)) in
         record {
           l = c .l;
-          is = rw (eg, ev, whole, ed, et, eq-eqb _ _ (p .three), eq-eqb _ _ (p .bits)) (c .is);
+          is = rw (eg, ev, in-pixels, ed, et, eq-eqb _ _ (p .three), eq-eqb _ _ (p .bits)) (c .is);
           size = c .size;
           painted-is = c .image-is;
         }
@@ -109,6 +101,6 @@ module _ (ns : List Node) (f j most : ℕ) (m : Mappable ns f j most) where
   by-mappable =
       let d = holds-is (findVr ns Tags.LUTDescriptor US (inside ns j)) _ (m .lut) in
       let t = holds-is (findVr ns Tags.LUTData OW (inside ns j)) _ (d .1 .1) in
-      let c = maps (m .g) (m .v) (d .0) (t .0) (m .geometry) (m .pixels) (d .1 .0) (t .1 .0) (zeros (samplesOf (m .g)))
-      (zeros-room (samplesOf (m .g))) in
+      let c = maps (m .g) (m .v) (d .0) (t .0) (m .geometry) (m .pixels) (d .1 .0) (t .1 .0) (replicate {A = ℕ} (samplesOf (m .g)) 0)
+      (omega (arith, length-replicate {A = ℕ} (samplesOf (m .g)) 0)) in
       (c .l, (c .is, c .size))

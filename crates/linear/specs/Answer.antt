@@ -14,7 +14,7 @@ use Rattle.conformance.specs.declared.JudgeAnswer.the-variants as judged
 use Rattle.display.specs.Show.{isFrameOf, imageSize}
 use Rattle.linear.specs.declared.LinearAnswer.{LinearAnswer}
 use Rattle.linear.specs.declared.LinearAnswer.the-variants as linear
-use Rattle.linear.specs.Mapping.{mappingOf, isMapped}
+use Rattle.linear.specs.Mapping.{mappingOf, hasLinearItem}
 
 -- The entries; none if something is lacking, which never happens for a frame of an accepted object with a TO_LINEAR item.
 abbrev pub entriesIn : Option (List ℕ) → List ℕ
@@ -28,7 +28,7 @@ entriesOf ns f = entriesIn (mappingOf ns f)
 unfoldable pub acceptedAnswer : List Node → ℕ → List ℕ → ℕ → LinearAnswer
 acceptedAnswer ns f values n =
     cond (isFrameOf ns f)
-    (cond (isMapped ns f)
+    (cond (hasLinearItem ns f)
     (cond (leb (imageSize ns) (length values)) (linear.Mapped n) linear.NoValuesRoom)
     linear.NoItem)
     linear.NoFrame
@@ -57,7 +57,7 @@ valuesBy l values linear.NoValuesRoom = values
 unfoldable pub valuesLeft : List ℕ → ℕ → List ℕ → List ℕ → List ℕ
 valuesLeft s f buffer values = valuesBy (entriesOf (nodesOf s) f) values (linearOf s f buffer values)
 
--- The papers' numbers for each case.
+-- The paper's numbers for each case.
 abbrev pub fieldsOf : LinearAnswer → Fields
 fieldsOf (linear.Mapped n) = counted n
 fieldsOf (linear.Broken n rule frame) = broken n rule frame

@@ -17,7 +17,7 @@ use Rattle.dataset.specs.Tree.{rowsOf}
 use Rattle.node.specs.Nodes.{Node, nodesOf}
 use Rattle.display.specs.Show.{imageSize}
 use Rattle.display.specs.Drawing.{IsAccepted, IsFrame, HasRoom, Drawing}
-use Rattle.linear.specs.Mapping.{mappingOf, isMapped}
+use Rattle.linear.specs.Mapping.{mappingOf, hasLinearItem}
 use Rattle.linear.specs.Answer.{linearOf, valuesLeft, fieldsOf}
 
 -- The mapping lacks nothing at frame f: it gives exactly Rows × Columns numbers.
@@ -27,7 +27,7 @@ pub record Mapped (ns : List Node) (f : ℕ) : Type 0 where
   pub size : length l ≡ imageSize ns
 
 -- The mapping gives numbers l, and `linear` hands back l.
-pub record Measured (s : List ℕ) (f : ℕ) (buffer values : List ℕ) : Type 0 where
+pub record LinearBack (s : List ℕ) (f : ℕ) (buffer values : List ℕ) : Type 0 where
   pub l : List ℕ
   pub is : mappingOf (nodesOf s) f ≡ some l
   pub rows : fieldsOf (linearOf s f buffer values) .rows ≡ length (rowsOf s)
@@ -37,15 +37,15 @@ pub record Promise (s : List ℕ) (f : ℕ) : Type 0 where
   -- Drawing: every frame of an accepted object can be drawn and is, nothing else is, and as the steps say.
   pub drawing : Drawing s f
   -- Every frame of an accepted object that has a TO_LINEAR item can be mapped.
-  pub mappable : IsAccepted s → IsFrame s f → isMapped (nodesOf s) f ≡ true → Mapped (nodesOf s) f
+  pub mappable : IsAccepted s → IsFrame s f → hasLinearItem (nodesOf s) f ≡ true → Mapped (nodesOf s) f
   -- It is mapped if there is room,
-  pub mapped : (buffer values : List ℕ) → IsAccepted s → IsFrame s f → isMapped (nodesOf s) f ≡ true → HasRoom s buffer values
+  pub mapped : (buffer values : List ℕ) → IsAccepted s → IsFrame s f → hasLinearItem (nodesOf s) f ≡ true → HasRoom s buffer values
       → fieldsOf (linearOf s f buffer values) .code ≡ 0
   -- and nothing else is.
   pub nothing-else : (buffer values : List ℕ) → fieldsOf (linearOf s f buffer values) .code ≡ 0
-      → IsAccepted s × (IsFrame s f × ((isMapped (nodesOf s) f ≡ true) × HasRoom s buffer values))
+      → IsAccepted s × (IsFrame s f × ((hasLinearItem (nodesOf s) f ≡ true) × HasRoom s buffer values))
   -- What is handed back is what the mapping gives.
-  pub as-mapped : (buffer values : List ℕ) → fieldsOf (linearOf s f buffer values) .code ≡ 0 → Measured s f buffer values
+  pub as-mapped : (buffer values : List ℕ) → fieldsOf (linearOf s f buffer values) .code ≡ 0 → LinearBack s f buffer values
 
 -- For every data set, given as bytes, and every frame number.
 abbrev pub Demand3 : Type 0

@@ -62,10 +62,10 @@ unfoldable pub mappingOf : List Node → ℕ → Option (List ℕ)
 mappingOf ns f = then (linearFor ns f) (λ o. need o (mappingBy ns f))
 
 -- The frame has a TO_LINEAR item.
-abbrev pub isItem : Option Num → Bool
-isItem none = false
-isItem (some None) = false
-isItem (some (Is j)) = true
+abbrev pub isPresent : Option Num → Bool
+isPresent none = false
+isPresent (some None) = false
+isPresent (some (Is j)) = true
 
-unfoldable pub isMapped : List Node → ℕ → Bool
-isMapped ns f = isItem (linearFor ns f)
+unfoldable pub hasLinearItem : List Node → ℕ → Bool
+hasLinearItem ns f = isPresent (linearFor ns f)

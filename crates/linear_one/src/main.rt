@@ -1,6 +1,6 @@
 // Maps one frame of the data set on standard input back to beam intensity. Its one argument is the frame's number. It writes
 // the numbers to standard output as a PGM image of 16 bits, the high byte first; or the refusal, in a line.
-use argument::Decimal;
+use argument::FrameArgument;
 use linear::LinearAnswer;
 use linear_small::Mapped;
 use printing::print_broken;
@@ -83,23 +83,8 @@ fn map_input(frame: u64) {
 }
 
 fn main() {
-    if os::arg_count() != 2 {
-        io::write_all(1, b"frame: one number is wanted\n");
+    let FrameArgument::Number(frame) = argument::read_frame() else {
         return;
-    }
-    let mut text = [0u8; 20];
-    let n = os::arg(1, &mut text);
-    if os::errno() != 0 {
-        io::write_all(1, b"frame: at most 20 digits\n");
-        return;
-    }
-    match argument::read_decimal(&text[..n]) {
-        Decimal::Number(frame) => map_input(frame),
-        Decimal::TooLarge => {
-            io::write_all(1, b"frame: at most 18446744073709551615\n");
-        }
-        Decimal::NotNumber => {
-            io::write_all(1, b"frame: a number is wanted\n");
-        }
-    }
+    };
+    map_input(frame);
 }

@@ -20,16 +20,16 @@ use Rattle.conformance.specs.declared.JudgeAnswer.the-variants as judged
 use Rattle.conformance.specs.Judging.{judgeOf}
 use Rattle.judge_small.proofs.Room.{roomy}
 use Rattle.display.specs.Show.{isFrameOf, imageSize}
-use Rattle.display.proofs.Judged.{after-judging}
+use Rattle.conformance.proofs.After.{after-judging}
 use Rattle.linear.specs.declared.LinearAnswer.{LinearAnswer}
 use Rattle.linear.specs.declared.LinearAnswer.the-variants as linear
-use Rattle.linear.specs.Mapping.{isMapped}
+use Rattle.linear.specs.Mapping.{hasLinearItem}
 use Rattle.linear.specs.Answer.{entriesOf, acceptedAnswer, answerFor, linearOf, valuesBy, valuesLeft, fieldsOf}
 use Rattle.linear.proofs.LinearAnswer.{the-type}
 use Rattle.show_small.specs.declared.Sides.{Sides}
 use Rattle.show_small.specs.Shown.{sidesOf, noSides}
 use Rattle.linear_small.specs.declared.Mapped.{Mapped}
-use Rattle.linear_small.specs.Mapped.{sized, mappedOf, valuesAfter}
+use Rattle.linear_small.specs.Mapped.{sized, linearPrinted, valuesPrinted}
 
 -- ---- The row buffer
 
@@ -43,7 +43,7 @@ module _ (s : List ℕ) (f : ℕ) (buffer values : List ℕ) (h : width * length
   same-values = ap (valuesBy (entriesOf (nodesOf s) f) values) same-answer
 
   pub roomy-mapped : (a : LinearAnswer) (after : List ℕ) → a ≡ linearOf s f buffer values → after ≡ valuesLeft s f buffer values
-      → (sized (nodesOf s) a ≡ mappedOf s f values) × (after ≡ valuesAfter s f values)
+      → (sized (nodesOf s) a ≡ linearPrinted s f values) × (after ≡ valuesPrinted s f values)
   roomy-mapped a after e i = (ap (sized (nodesOf s)) (e ∙ same-answer), i ∙ same-values)
 
 -- ---- A frame that was mapped
@@ -59,7 +59,7 @@ mapped-accepted : (ns : List Node) (f : ℕ) (values : List ℕ) (a : JudgeAnswe
     → judged.Accepted n ≡ a
 unfolding acceptedAnswer
 mapped-accepted ns f values (judged.Accepted k) n e = ap judged.Accepted
-    (mapped-count (isFrameOf ns f) (isMapped ns f) (leb (imageSize ns) (length values)) k n e)
+    (mapped-count (isFrameOf ns f) (hasLinearItem ns f) (leb (imageSize ns) (length values)) k n e)
 mapped-accepted ns f values (judged.Broken k rule frame) n e = absurd (omega (arith, ap (λ (x : LinearAnswer). fieldsOf x .code) e))
 mapped-accepted ns f values (judged.Refused code offset) n e = let z : _≡_ {A = ℕ} 0 1 = cc in absurd (omega arith)
 mapped-accepted ns f values judged.TooLarge n e = absurd (omega (arith, ap (λ (x : LinearAnswer). fieldsOf x .code) e))
@@ -103,13 +103,13 @@ mapped-fits : (ns : List Node) (f : ℕ) (values : List ℕ) (a : JudgeAnswer)
     → let r = sized ns (answerFor ns f values a) in r .sides .height * r .sides .width ≤ length values
 unfolding acceptedAnswer
 mapped-fits ns f values (judged.Accepted k) =
-    done-fits ns (isFrameOf ns f) (isMapped ns f) (leb (imageSize ns) (length values)) k (length values) (leb-true _ _)
+    done-fits ns (isFrameOf ns f) (hasLinearItem ns f) (leb (imageSize ns) (length values)) k (length values) (leb-true _ _)
 mapped-fits ns f values (judged.Broken k rule frame) = omega arith
 mapped-fits ns f values (judged.Refused code offset) = omega arith
 mapped-fits ns f values judged.TooLarge = omega arith
 mapped-fits ns f values judged.NoRoom = omega arith
 
-pub fits : (s : List ℕ) (f : ℕ) (values : List ℕ) (r : Mapped) → r ≡ mappedOf s f values
+pub fits : (s : List ℕ) (f : ℕ) (values : List ℕ) (r : Mapped) → r ≡ linearPrinted s f values
     → r .sides .height * r .sides .width ≤ length values
 unfolding linearOf
 fits s f values r e =

@@ -1,12 +1,12 @@
--- What is mapped of a data set if the row buffer is large enough: the answer, the frame's size and the numbers.
+-- What is mapped of a data set if the row buffer is large enough, which is what the program prints: the answer, the frame's size and
+-- the numbers.
 use Prim.Native.Nat.{ℕ}
 use mathlib.Core.List.{List}
-use Rattle.dataset.specs.Answer.{flat}
-use Rattle.dataset.specs.Tree.{rowsOf}
 use Rattle.node.specs.Nodes.{Node, nodesOf}
 use Rattle.linear.specs.declared.LinearAnswer.{LinearAnswer}
 use Rattle.linear.specs.declared.LinearAnswer.the-variants as linear
 use Rattle.linear.specs.Answer.{linearOf, valuesLeft}
+use Rattle.judge_small.specs.Printed.{fullBuffer}
 use Rattle.show_small.specs.declared.Sides.{Sides}
 use Rattle.show_small.specs.Shown.{sidesOf, noSides}
 use Rattle.linear_small.specs.declared.Mapped.{Mapped}
@@ -25,10 +25,9 @@ sidesFor ns linear.NoValuesRoom = noSides
 abbrev pub sized : List Node → LinearAnswer → Mapped
 sized ns a = record { answer = a; sides = sidesFor ns a }
 
--- With a row buffer that the rows exactly fill; a larger one gives the same.
-abbrev pub mappedOf : List ℕ → ℕ → List ℕ → Mapped
-mappedOf s f values = sized (nodesOf s) (linearOf s f (flat (rowsOf s)) values)
+abbrev pub linearPrinted : List ℕ → ℕ → List ℕ → Mapped
+linearPrinted s f values = sized (nodesOf s) (linearOf s f (fullBuffer s) values)
 
 -- The values buffer afterwards.
-abbrev pub valuesAfter : List ℕ → ℕ → List ℕ → List ℕ
-valuesAfter s f values = valuesLeft s f (flat (rowsOf s)) values
+abbrev pub valuesPrinted : List ℕ → ℕ → List ℕ → List ℕ
+valuesPrinted s f values = valuesLeft s f (fullBuffer s) values

@@ -6,7 +6,7 @@ use show_small::sides_of;
 ghost use mathlib.Core.Path.{_≡_};
 ghost use Prim.Native.Nat.{_*_, _≤_};
 ghost use lib.ListN.{length};
-ghost use Rattle.linear_small.specs.Mapped.{mappedOf, valuesAfter};
+ghost use Rattle.linear_small.specs.Mapped.{linearPrinted, valuesPrinted};
 
 // The answer of `linear`, and the sides of the frame; 0 and 0 if no frame was mapped.
 pub struct Mapped {
@@ -18,8 +18,8 @@ pub struct Mapped {
 // stated for the callers that print them.
 pub fn linear_small(bytes: &[u8], frame: u64, values: &mut [u16]) -> Mapped
     requires { ⌜ length (now bytes) ≤ 65536 ⌝ }
-    ensures { λ r. ⌜ r ≡ mappedOf (now (bytes .entry)) frame (now (values .entry)) ⌝ }
-    ensures { λ _. ⌜ now (values .exit) ≡ valuesAfter (now (bytes .entry)) frame (now (values .entry)) ⌝ }
+    ensures { λ r. ⌜ r ≡ linearPrinted (now (bytes .entry)) frame (now (values .entry)) ⌝ }
+    ensures { λ _. ⌜ now (values .exit) ≡ valuesPrinted (now (bytes .entry)) frame (now (values .entry)) ⌝ }
     ensures { λ r. ⌜ r .sides .height * r .sides .width ≤ length (now (values .entry)) ⌝ }
 {
     let mut rows = row_buffer();

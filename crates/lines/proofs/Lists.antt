@@ -1,4 +1,4 @@
--- Lists f 0, f 1, .. and what is painted.
+-- What is painted on n places is the list f 0, f 1, .. up to f (n - 1), and behind it what was there before: each turn sets one place more.
 use mathlib.Core.Path.{_≡_, refl, sym, ap, _∙_, subst}
 use mathlib.Core.List.{List, [], _∷_, _++_, append-assoc, append-nil}
 use mathlib.Core.Logic.{dite}
@@ -9,7 +9,8 @@ use native.Mathlib.Omega.{arith}
 use lib.ListN.{length, length-append, getD, set, drop, take, List·getD-append}
 use lib.Seq.{drop-cons, set-at, take-append-seam, getD-at}
 use Rattle.pixel.specs.Contracts.{painted}
-use Rattle.lines.specs.Contracts.{upTo}
+use Rattle.pixel.proofs.Laws.{painted-length}
+use Rattle.basics.specs.Lists.{upTo}
 
 pub upTo-length : (f : ℕ → ℕ) (n : ℕ) → length (upTo f n) ≡ n
 unfolding upTo
@@ -52,3 +53,10 @@ pub painted-take : (f : ℕ → ℕ) (n : ℕ) (s : List ℕ) → n ≤ length s
 painted-take f n s h =
     ap (take n) (painted-list f n s h)
     ∙ subst (λ (k : ℕ). take k (upTo f n ++ drop n s) ≡ upTo f n) (upTo-length f n) (take-append-seam (upTo f n) (drop n s))
+
+-- A line that was painted, and its first n places.
+pub line-length : (f : ℕ → ℕ) (n : ℕ) (s : List ℕ) {after : List ℕ} → after ≡ painted f n s → length after ≡ length s
+line-length f n s e = ap length e ∙ painted-length f n s
+
+pub line-list : (f : ℕ → ℕ) (n : ℕ) (s : List ℕ) {after : List ℕ} → after ≡ painted f n s → n ≤ length s → take n after ≡ upTo f n
+line-list f n s e h = ap (take n) e ∙ painted-take f n s h

@@ -1,14 +1,16 @@
 // Lines of a frame's picture, each drawn separately from the frame's own bytes.
 ghost use mathlib.Core.Path.{_≡_};
-ghost use mathlib.Core.Bool.{true};
-ghost use Prim.Native.Nat.{_+_, _-_, _*_, _/_, _%_, _^_, _≤_};
+ghost use Prim.Native.Nat.{_+_, _-_, _*_, _/_, _^_, _≤_};
 ghost use lib.ListN.{length};
 ghost use Rattle.value.specs.Number.{usValues};
+ghost use Rattle.shift.specs.Shift.{shiftUnit};
+ghost use Rattle.shift.specs.Contracts.{ShortMoves};
 ghost use Rattle.window.specs.Contracts.{Drawable, shadeAt, Filled, shadePlaces};
-ghost use Rattle.pixel.specs.Contracts.{painted, nativeShade, longestRow, RowLies, plainPlace, maskPlace, shifted, Averaged, quarterShade};
-ghost use Rattle.pixel.specs.Contracts.{Subtracts};
-ghost use Rattle.lines.specs.Contracts.{Shaded, shadesOf, LineReady, MaskedBy};
+ghost use Rattle.pixel.specs.Contracts.{Shaped, Masks, painted, nativeShade, longestRow, RowLies, plainPlace, maskPlace, quarterShade};
+ghost use Rattle.pixel.specs.Contracts.{Subtracts, shifted, Averaged};
+ghost use Rattle.lines.specs.Contracts.{Shaded, shadesOf, LineReady, WholeReady, QuartersReady, WayReady, wayShade, WayOf};
 use pixel::Geometry;
+use shift::Moves;
 use window::Window;
 
 // How cells become levels: by a window, inverted or not, and whether a table is filled with its levels.
@@ -16,6 +18,14 @@ pub struct Shades {
     pub window: Window,
     pub inverse: bool,
     pub filled: bool,
+}
+
+// How the lines of a frame are drawn: without a mask, with a mask moved by whole pixels, or with mask rows blended two at a time. The
+// numbers are offsets down and to the right, in quarters.
+pub enum Way {
+    Native,
+    Whole(usize, usize),
+    Quarters(usize, usize),
 }
 
 // Fills a table with the level of every place.
@@ -36,7 +46,8 @@ pub fn fill(window: Window, stored: usize, inverse: bool, table: &mut [u8])
 // The levels of a line, each worked out from the window.
 fn plain_by_window(line: &[u8], g: Geometry, window: Window, inverse: bool, levels: &mut [u8])
     requires { ⌜ RowLies (now line) g 0 × (Drawable window × (g .columns ≤ length (now levels))) ⌝ }
-    ensures { λ _. ⌜ now (levels .exit) ≡ painted (λ c. shadeAt window (g .stored) inverse (plainPlace g (now (line .entry)) c)) (g .columns) (now (levels .entry)) ⌝ }
+    ensures { λ _. ⌜ now (levels .exit)
+        ≡ painted (λ c. shadeAt window (g .stored) inverse (plainPlace g (now (line .entry)) c)) (g .columns) (now (levels .entry)) ⌝ }
 {
     let columns = g.columns;
     let half = pixel::power(g.stored - 1);
@@ -49,7 +60,7 @@ fn plain_by_window(line: &[u8], g: Geometry, window: Window, inverse: bool, leve
 }
 
 // A line of a frame that takes no mask.
-pub fn native_line(
+fn native_line(
     pixels: &[u8],
     g: Geometry,
     frame: usize,
@@ -59,7 +70,9 @@ pub fn native_line(
     levels: &mut [u8],
 )
     requires { ⌜ LineReady (now pixels) g frame row (now levels) × Shaded shades (g .stored) (now table) ⌝ }
-    ensures { λ _. ⌜ now (levels .exit) ≡ painted (λ c. nativeShade (shadesOf shades (g .stored)) g (now (pixels .entry)) frame (row * g .columns + c)) (g .columns) (now (levels .entry)) ⌝ }
+    ensures { λ _. ⌜ now (levels .exit)
+        ≡ painted (λ c. nativeShade (shadesOf shades (g .stored)) g (now (pixels .entry)) frame (row * g .columns + c)) (g .columns)
+        (now (levels .entry)) ⌝ }
 {
     let line = frame::frame_line(pixels, g.rows, g.columns, g.width, frame, row);
     if shades.filled {
@@ -72,7 +85,7 @@ pub fn native_line(
 // ---- Lines that take a mask
 
 // A line of a frame whose mask is moved by whole pixels; `sums` is room for a row and its edges.
-pub fn whole_line(
+fn whole_line(
     pixels: &[u8],
     g: Geometry,
     frame: usize,
@@ -86,10 +99,10 @@ pub fn whole_line(
     levels: &mut [u8],
 )
     requires { ⌜ LineReady (now pixels) g frame row (now levels)
-        × (MaskedBy (now pixels) g (now masks) down right
-        × (Shaded shades (g .stored) (now table)
-        × ((shades .filled ≡ true) × ((down % 4 ≡ 0) × ((right % 4 ≡ 0) × (longestRow ≤ length (now sums))))))) ⌝ }
-    ensures { λ _. ⌜ now (levels .exit) ≡ painted (λ c. quarterShade (shadesOf shades (g .stored)) g (now (pixels .entry)) frame (usValues (now (masks .entry))) down right (row * g .columns + c)) (g .columns) (now (levels .entry)) ⌝ }
+        × (Shaded shades (g .stored) (now table) × WholeReady (now pixels) g (now masks) down right (shades .filled) (now sums)) ⌝ }
+    ensures { λ _. ⌜ now (levels .exit)
+        ≡ painted (λ c. quarterShade (shadesOf shades (g .stored)) g (now (pixels .entry)) frame (usValues (now (masks .entry))) down right
+        (row * g .columns + c)) (g .columns) (now (levels .entry)) ⌝ }
 {
     let rows = g.rows;
     let line = frame::frame_line(pixels, rows, g.columns, g.width, frame, row);
@@ -122,7 +135,9 @@ fn masked_by_window(
     levels: &mut [u8],
 )
     requires { ⌜ Subtracts (now line) g s (now masks) (now levels) × Drawable window ⌝ }
-    ensures { λ _. ⌜ now (levels .exit) ≡ painted (λ c. shadeAt window (g .stored) inverse (maskPlace g (now (line .entry)) (now (masks .entry)) s c)) (g .columns) (now (levels .entry)) ⌝ }
+    ensures { λ _. ⌜ now (levels .exit)
+        ≡ painted (λ c. shadeAt window (g .stored) inverse (maskPlace g (now (line .entry)) (now (masks .entry)) s c)) (g .columns)
+        (now (levels .entry)) ⌝ }
 {
     let columns = g.columns;
     let half = pixel::power(g.stored - 1);
@@ -135,7 +150,7 @@ fn masked_by_window(
 
 // A line of a frame from two mask rows, blended. `lower` holds the row that this line takes as its upper one, and afterwards the one for
 // the next line.
-pub fn quarter_line(
+fn quarter_line(
     pixels: &[u8],
     g: Geometry,
     frame: usize,
@@ -150,13 +165,12 @@ pub fn quarter_line(
     levels: &mut [u8],
 )
     requires { ⌜ LineReady (now pixels) g frame row (now levels)
-        × (MaskedBy (now pixels) g (now masks) down right
-        × (Shaded shades (g .stored) (now table)
-        × ((longestRow ≤ length (now upper))
-        × ((longestRow ≤ length (now lower))
-        × Averaged (now pixels) g (usValues (now masks)) (shifted (down / 4) (g .rows) row) (now lower))))) ⌝ }
-    ensures { λ _. ⌜ now (levels .exit) ≡ painted (λ c. quarterShade (shadesOf shades (g .stored)) g (now (pixels .entry)) frame (usValues (now (masks .entry))) down right (row * g .columns + c)) (g .columns) (now (levels .entry)) ⌝ }
-    ensures { λ _. ⌜ Averaged (now (pixels .entry)) g (usValues (now (masks .entry))) (shifted (down / 4) (g .rows) (row + 1)) (now (lower .exit)) ⌝ }
+        × (Shaded shades (g .stored) (now table) × QuartersReady (now pixels) g (now masks) down right row (now upper) (now lower)) ⌝ }
+    ensures { λ _. ⌜ now (levels .exit)
+        ≡ painted (λ c. quarterShade (shadesOf shades (g .stored)) g (now (pixels .entry)) frame (usValues (now (masks .entry))) down right
+        (row * g .columns + c)) (g .columns) (now (levels .entry)) ⌝ }
+    ensures { λ _. ⌜ Averaged (now (pixels .entry)) g (usValues (now (masks .entry))) (shifted (down / shiftUnit) (g .rows) (row + 1))
+        (now (lower .exit)) ⌝ }
 {
     let rows = g.rows;
     let columns = g.columns;
@@ -176,5 +190,96 @@ pub fn quarter_line(
         pixel::masked_row(line, g, s, upper, table, levels);
     } else {
         masked_by_window(line, g, s, upper, shades.window, shades.inverse, levels);
+    }
+}
+
+// ---- Any line
+
+// The way to draw a masked frame, chosen once. A whole shift takes one mask row for each line if a table is filled; any other takes two,
+// and `lower` is then left with the first line's upper row.
+pub fn masked_way(
+    pixels: &[u8],
+    g: Geometry,
+    masks: &[u8],
+    moves: Moves,
+    filled: bool,
+    lower: &mut [u32],
+) -> Way
+    requires { ⌜ Shaped g × (Masks (now pixels) g (now masks) × (ShortMoves moves × (longestRow ≤ length (now lower)))) ⌝ }
+    ensures { λ r. ⌜ WayOf r (now (pixels .entry)) g (now (masks .entry)) filled moves (now (lower .exit)) ⌝ }
+{
+    let vertical = moves.vertical;
+    let horizontal = moves.horizontal;
+    let down = pixel::offset_of(vertical);
+    let right = pixel::offset_of(horizontal);
+    if filled {
+        if down % pixel::UNIT == 0 {
+            if right % pixel::UNIT == 0 {
+                return Way::Whole(down, right);
+            }
+        }
+    }
+    pixel::average_row(
+        pixels,
+        g,
+        masks,
+        pixel::moved(down / pixel::UNIT, g.rows, 0),
+        lower,
+    );
+    Way::Quarters(down, right)
+}
+
+// A line of a frame, drawn by the frame's way. `upper` and `lower` are room for mask rows and their edges, as far as the way takes any.
+pub fn draw_line(
+    way: Way,
+    pixels: &[u8],
+    g: Geometry,
+    frame: usize,
+    masks: &[u8],
+    row: usize,
+    shades: Shades,
+    table: &[u8],
+    upper: &mut [u32],
+    lower: &mut [u32],
+    levels: &mut [u8],
+)
+    requires { ⌜ LineReady (now pixels) g frame row (now levels)
+        × (Shaded shades (g .stored) (now table)
+        × WayReady way (now pixels) g (now masks) (shades .filled) row (now upper) (now lower)) ⌝ }
+    ensures { λ _. ⌜ now (levels .exit)
+        ≡ painted (λ c. wayShade way (shadesOf shades (g .stored)) g (now (pixels .entry)) frame (usValues (now (masks .entry)))
+        (row * g .columns + c)) (g .columns) (now (levels .entry)) ⌝ }
+    ensures { λ _. ⌜ WayReady way (now (pixels .entry)) g (now (masks .entry)) (shades .filled) (row + 1) (now (upper .exit))
+        (now (lower .exit)) ⌝ }
+{
+    match way {
+        Way::Native => native_line(pixels, g, frame, row, shades, table, levels),
+        Way::Whole(down, right) => whole_line(
+            pixels,
+            g,
+            frame,
+            masks,
+            down,
+            right,
+            row,
+            shades,
+            table,
+            upper,
+            levels,
+        ),
+        Way::Quarters(down, right) => quarter_line(
+            pixels,
+            g,
+            frame,
+            masks,
+            down,
+            right,
+            row,
+            shades,
+            table,
+            upper,
+            lower,
+            levels,
+        ),
     }
 }

@@ -12,11 +12,12 @@ use Rattle.value.specs.Text.{isSingle}
 use Rattle.value.specs.Words.{isUid}
 use Rattle.meta.specs.declared.Uid.{Uid}
 use Rattle.meta.specs.declared.Uid.the-variants.{At, None}
-use Rattle.meta.specs.declared.Found.{Found}
+use Rattle.meta.specs.declared.HeadFindings.{HeadFindings}
 use Rattle.meta.specs.declared.Meta.{Meta}
 use Rattle.meta.specs.declared.Meta.the-variants.{Good, NoMark, BadHead, OtherSyntax}
 use Rattle.meta.specs.Meta.{explicitLittleEndian, isMarked, hasGroupLength, headEnd, headOf, noneFound, foundIn, part, named, ofRun}
 use Rattle.meta.specs.Meta.{headedOf, metaOf}
+use Rattle.meta.proofs.Heads.{either}
 
 -- Good only at the end named.
 abbrev EndsAt : ℕ → Meta → Type 0
@@ -25,24 +26,20 @@ EndsAt end NoMark = Unit {0}
 EndsAt end BadHead = Unit {0}
 EndsAt end OtherSyntax = Unit {0}
 
-either : (end : ℕ) (t : Bool) (m n : Meta) → EndsAt end m → EndsAt end n → EndsAt end (cond t m n)
-either end true m n p q = p
-either end false m n p q = q
-
 named-ends : (s : List ℕ) (class syntax : Uid) → EndsAt (headEnd s) (named s class syntax)
 named-ends s None syntax = tt
 named-ends s (At a b) None = tt
 named-ends s (At a b) (At c d) =
-    either (headEnd s) (isSingle (part s a b)) _ BadHead
-    (either (headEnd s) (isSingle (part s c d)) _ BadHead
-    (either (headEnd s) (isUid (part s c d) explicitLittleEndian) (Good (headEnd s) a b) OtherSyntax refl tt) tt)
+    either (EndsAt (headEnd s)) (isSingle (part s a b)) {y = BadHead}
+    (either (EndsAt (headEnd s)) (isSingle (part s c d)) {y = BadHead}
+    (either (EndsAt (headEnd s)) (isUid (part s c d) explicitLittleEndian) {x = Good (headEnd s) a b} {y = OtherSyntax} refl tt) tt)
     tt
 
 run-ends : (s : List ℕ) (o : Run) → EndsAt (headEnd s) (ofRun s o)
 run-ends s (refused code offset) = tt
 run-ends s (done stop next rows) =
-    let f : Found = foundIn noneFound rows in
-    either (headEnd s) (f .only) (named s (f .class) (f .syntax)) BadHead (named-ends s (f .class) (f .syntax)) tt
+    let f : HeadFindings = foundIn noneFound rows in
+    either (EndsAt (headEnd s)) (f .only) {y = BadHead} (named-ends s (f .class) (f .syntax)) tt
 
 -- Good only within the file.
 abbrev StartsWithin : ℕ → Meta → Type 0

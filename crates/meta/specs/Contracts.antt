@@ -3,7 +3,7 @@ use Prim.Native.Nat.{ℕ, _≤_}
 use Rattle.dataset.specs.Reading.{Run, done, refused}
 use Rattle.meta.specs.declared.Uid.{Uid}
 use Rattle.meta.specs.declared.Uid.the-variants.{At, None}
-use Rattle.meta.specs.declared.Found.{Found}
+use Rattle.meta.specs.declared.HeadFindings.{HeadFindings}
 use Rattle.meta.specs.declared.Elements.{Elements}
 use Rattle.meta.specs.declared.Elements.the-variants as elements
 use Rattle.meta.specs.declared.Meta.{Meta}
@@ -15,7 +15,7 @@ abbrev pub UidWithin : ℕ → Uid → Type 0
 UidWithin size None = Unit {0}
 UidWithin size (At a b) = (a ≤ b) × (b ≤ size)
 
-pub record FoundWithin (size : ℕ) (f : Found) : Type 0 where
+pub record FoundWithin (size : ℕ) (f : HeadFindings) : Type 0 where
   pub class-in : UidWithin size (f .class)
   pub syntax-in : UidWithin size (f .syntax)
 

@@ -15,7 +15,7 @@ use Rattle.value.specs.Text.{ascii, isSingle}
 use Rattle.value.specs.Words.{isUid}
 use Rattle.meta.specs.declared.Uid.{Uid}
 use Rattle.meta.specs.declared.Uid.the-variants.{At, None}
-use Rattle.meta.specs.declared.Found.{Found}
+use Rattle.meta.specs.declared.HeadFindings.{HeadFindings}
 use Rattle.meta.specs.declared.Meta.{Meta}
 use Rattle.meta.specs.declared.Meta.the-variants.{Good, NoMark, BadHead, OtherSyntax}
 
@@ -26,8 +26,11 @@ explicitLittleEndian = ascii "1.2.840.10008.1.2.1"
 -- ---- The mark and the group length
 
 -- "DICM" at byte 128.
+abbrev pub mark : ℕ
+mark = 128
+
 unfoldable pub isMarked : List ℕ → Bool
-isMarked s = sameBytes (take 4 (drop 128 s)) (ascii "DICM")
+isMarked s = sameBytes (take 4 (drop mark s)) (ascii "DICM")
 
 -- Where the head's elements start: after the mark.
 abbrev pub start : ℕ
@@ -56,10 +59,10 @@ unfoldable pub uidAt : ℕ → ℕ → ℕ → Uid
 uidAt vr offset size = cond (eqb vr UI) (cond (eqb size 0) None (At offset (offset + size))) None
 
 -- What is found at depth 0: whether all elements are of group 0002, and where the two UIDs are.
-abbrev pub noneFound : Found
+abbrev pub noneFound : HeadFindings
 noneFound = record { only = true; class = None; syntax = None }
 
-unfoldable pub noted : Found → ℕ → ℕ → ℕ → ℕ → Found
+unfoldable pub noted : HeadFindings → ℕ → ℕ → ℕ → ℕ → HeadFindings
 noted f tag vr offset size = record {
   only = cond (eqb (tag / 65536) 2) (f .only) false;
   class = cond (eqb tag MediaStorageSOPClassUID) (uidAt vr offset size) (f .class);
@@ -67,7 +70,7 @@ noted f tag vr offset size = record {
 }
 
 -- Row by row. Tags ascend at depth 0, so neither UID is there twice; nothing is asked of what is deeper.
-unfoldable pub foundIn : Found → List Row → Found
+unfoldable pub foundIn : HeadFindings → List Row → HeadFindings
 foundIn f [] = f
 foundIn f (r ∷ rs) = foundIn (cond (eqb (r .depth) 0) (noted f (r .tag) (r .vr) (r .offset) (r .size)) f) rs
 
@@ -88,7 +91,7 @@ named s (At a b) (At c d) =
     BadHead)
     BadHead
 
-abbrev pub ofFound : List ℕ → Found → Meta
+abbrev pub ofFound : List ℕ → HeadFindings → Meta
 ofFound s f = cond (f .only) (named s (f .class) (f .syntax)) BadHead
 
 abbrev pub ofRun : List ℕ → Run → Meta

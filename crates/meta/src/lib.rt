@@ -10,34 +10,37 @@ ghost use Prim.Native.Nat.{_+_, _-_, _/_, _≤_};
 ghost use mathlib.Core.Bool.{cond, false};
 ghost use lib.ListN.{length};
 ghost use lib.Dec.{eqb};
-ghost use Rattle.dataset.specs.Reading.{depths, elementsAt, itemsAt, valueRun};
+ghost use Rattle.dataset.specs.Reading.{depths, elementsAt, valueRun};
 ghost use Rattle.dataset.specs.Header.{cursor, elementAt};
-ghost use Rattle.dataset.specs.Contracts.{Within, Walked, Ready};
-ghost use Rattle.meta.specs.Meta.{isMarked, hasGroupLength, headEnd, uidAt, noted, named, headedOf, metaOf};
+ghost use Rattle.dataset.specs.Contracts.{Within, Walked, Ready, itemsAt};
+ghost use Rattle.meta.specs.Meta.{start, isMarked, hasGroupLength, headEnd, uidAt, noted, named, headedOf, metaOf};
 ghost use Rattle.meta.specs.declared.Uid.the-variants.{At};
 ghost use Rattle.meta.specs.Contracts.{UidWithin, walkOf, ElementsWithin, MetaWithin};
 use basics::tags;
 use basics::vrs;
 
-// Where the head's elements start: after 128 bytes of anything and "DICM".
+// Where "DICM" stands: after 128 bytes of anything.
+const MARK: usize = 128;
+
+// Where the head's elements start: after it.
 const START: usize = 132;
 
 // Where the value of a UID starts and stops.
-pub enum Uid {
+enum Uid {
     At(usize, usize),
     None,
 }
 
 // What is found in the head's elements at depth 0: whether all are of group 0002, and where the two UIDs are.
-pub struct Found {
+struct HeadFindings {
     pub only: bool,
     pub class: Uid,
     pub syntax: Uid,
 }
 
 // The result of reading the head's elements: what was found in them, or that they break a reading check.
-pub enum Elements {
-    Good(Found),
+enum Elements {
+    Good(HeadFindings),
     Refused,
 }
 
@@ -55,7 +58,7 @@ fn is_marked(file: &[u8]) -> bool
     if file.len() < START {
         return false;
     }
-    basics::same_bytes(&file[128..132], b"DICM")
+    basics::same_bytes(&file[MARK..START], b"DICM")
 }
 
 fn has_group_length(file: &[u8]) -> bool
@@ -104,14 +107,14 @@ fn has_only_group_2(tag: usize, before: bool) -> bool
 }
 
 // What is found with one more element.
-fn note(found: Found, tag: usize, vr: usize, start: usize, stop: usize) -> Found
+fn note(found: HeadFindings, tag: usize, vr: usize, start: usize, stop: usize) -> HeadFindings
     requires { ⌜ start ≤ stop ⌝ }
     ensures { λ r. ⌜ r ≡ noted found tag vr start (stop - start) ⌝ }
 {
     let here = uid_at(vr, start, stop);
     let class = found.class;
     let syntax = found.syntax;
-    Found {
+    HeadFindings {
         only: has_only_group_2(tag, found.only),
         class: chosen(tag, tags::MEDIA_STORAGE_SOP_CLASS_UID, here, class),
         syntax: chosen(tag, tags::TRANSFER_SYNTAX_UID, here, syntax),
@@ -193,9 +196,9 @@ fn past(file: &[u8], vr: usize, value: Cursor, none: &mut [u32], first: usize) -
 }
 
 // The head's elements up to `end`, one after another. There is no buffer for their rows.
-fn along(file: &[u8], end: usize, none: &mut [u32]) -> Elements
-    requires { ⌜ (132 ≤ end) × ((end ≤ length (now file)) × (length (now none) ≡ 0)) ⌝ }
-    ensures { λ r. ⌜ r ≡ walkOf (elementsAt depths (now (file .entry)) 0 (cursor 132 end false)) ⌝ }
+fn walk_head(file: &[u8], end: usize, none: &mut [u32]) -> Elements
+    requires { ⌜ (start ≤ end) × ((end ≤ length (now file)) × (length (now none) ≡ 0)) ⌝ }
+    ensures { λ r. ⌜ r ≡ walkOf (elementsAt depths (now (file .entry)) 0 (cursor start end false)) ⌝ }
     ensures { λ r. ⌜ ElementsWithin (length (now (file .entry))) r ⌝ }
 {
     let mut here = Cursor {
@@ -205,7 +208,7 @@ fn along(file: &[u8], end: usize, none: &mut [u32]) -> Elements
     };
     let mut n: usize = 0;
     let mut least: usize = 0;
-    let mut found = Found {
+    let mut found = HeadFindings {
         only: true,
         class: Uid::None,
         syntax: Uid::None,
@@ -276,7 +279,7 @@ fn names(file: &[u8], end: usize, class: Uid, syntax: Uid) -> Meta
 
 // The head of a file with a mark and a group length.
 fn headed(file: &[u8]) -> Meta
-    requires { ⌜ 144 ≤ length (now file) ⌝ }
+    requires { ⌜ start + 12 ≤ length (now file) ⌝ }
     ensures { λ r. ⌜ r ≡ headedOf (now (file .entry)) ⌝ }
     ensures { λ r. ⌜ MetaWithin (length (now (file .entry))) r ⌝ }
 {
@@ -286,7 +289,7 @@ fn headed(file: &[u8]) -> Meta
     }
     let mut room = [0u32; 1];
     let none: usize = 0;
-    match along(file, end, &mut room[none..none]) {
+    match walk_head(file, end, &mut room[none..none]) {
         Elements::Refused => Meta::BadHead,
         Elements::Good(found) => {
             let class = found.class;

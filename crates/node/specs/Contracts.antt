@@ -1,27 +1,30 @@
 -- What the functions of this crate require of and promise each other. None of this is in the papers.
 use mathlib.Core.Path.{_≡_}
-use Prim.Native.Nat.{ℕ, _*_, _≤_, _<_}
+use mathlib.Core.Bool.{Bool, cond}
 use mathlib.Core.List.{List, [], _∷_}
+use Prim.Native.Nat.{ℕ, _*_, _≤_, _<_}
 use lib.ListN.{length}
+use lib.Dec.{eqb, ltb}
 use Rattle.basics.specs.Limits.{mostRows}
 use Rattle.dataset.specs.Answer.{width, flat}
 use Rattle.dataset.specs.Tree.{rowsOf, rowAt, Kind, Members}
-use Rattle.node.specs.Nodes.{nodesOf, Node, nodeAt, nextNode, members}
-use mathlib.Core.Bool.{cond}
-use lib.Dec.{eqb, ltb}
 use Rattle.value.specs.declared.Num.{Num}
 use Rattle.value.specs.declared.Num.the-variants.{Is, None}
+use Rattle.node.specs.Nodes.{nodesOf, Node, nodeAt, nextNode, members}
 
--- What the functions over a row table require of it.
-
--- The row table of a data set that was read.
+-- The row table of a data set that was read, which every function here requires.
 pub record Table (s rows : List ℕ) : Type 0 where
   pub is : rows ≡ flat (rowsOf s)
   pub size : length rows ≡ width * length (nodesOf s)
   pub few : length (nodesOf s) ≤ mostRows
 
--- How the code finds an element among members: tags never descend among them, so a search can stop at the first tag not below the one
--- sought, and can go by halves if that is far.
+-- What p says about what was found; `otherwise` if nothing was.
+abbrev pub holdsOr : Num → (ℕ → Bool) → Bool → Bool
+holdsOr None p otherwise = otherwise
+holdsOr (Is n) p otherwise = p n
+
+-- ---- How the code finds an element among members: tags never descend among them, so a search can stop at the first tag not below the
+-- one sought, and can go by halves if that is far.
 
 -- No tag of the members is below `least` or below one before it.
 unfoldable pub Ascends : List Node → ℕ → List ℕ → Type 0

@@ -22,11 +22,6 @@ abbrev pub ifPresent : Num → (ℕ → Bool) → Bool
 ifPresent None p = true
 ifPresent (Is n) p = p n
 
--- What p says about it; `otherwise` if nothing is there.
-abbrev pub holdsOr : Num → (ℕ → Bool) → Bool → Bool
-holdsOr None p otherwise = otherwise
-holdsOr (Is n) p otherwise = p n
-
 abbrev pub absent : Num → Bool
 absent None = true
 absent (Is n) = false

@@ -40,7 +40,7 @@ pub fn next(bytes: &[u8], rows: &[u32], i: usize) -> usize
     requires { ⌜ Table (now bytes) (now rows) × (i < length (nodesOf (now bytes))) ⌝ }
     ensures { λ r. ⌜ (r ≡ nextNode (nodesOf (now (bytes .entry))) i) × (r ≤ length (nodesOf (now (bytes .entry)))) ⌝ }
 {
-    i + 1 + wider(rows[WIDTH * i + dataset::BELOW])
+    i + 1 + wider(rows[WIDTH * i + dataset::DESCENDANTS])
 }
 
 // The value of node i, a part of the data set.
@@ -56,12 +56,12 @@ pub fn value<'a, 'b>(bytes: &'a [u8], rows: &'b [u32], i: usize) -> &'a [u8]
         return &bytes[..0];
     }
     let start = wider(rows[WIDTH * i + dataset::OFFSET]);
-    let end = start + wider(rows[WIDTH * i + dataset::LENGTH]);
+    let end = start + wider(rows[WIDTH * i + dataset::SIZE]);
     &bytes[start..end]
 }
 
 // The element of the tag among the members from `from` up to `to`. The search stops at the first tag not below the one sought.
-pub fn find_tag(bytes: &[u8], rows: &[u32], from: usize, to: usize, wanted: usize) -> Num
+fn find_tag(bytes: &[u8], rows: &[u32], from: usize, to: usize, wanted: usize) -> Num
     requires { ⌜ Table (now bytes) (now rows)
         × ((to ≤ length (nodesOf (now bytes))) × Ascends (nodesOf (now bytes)) 0 (members (nodesOf (now bytes)) from to)) ⌝ }
     ensures { λ r. ⌜ r ≡ find (nodesOf (now (bytes .entry))) wanted (members (nodesOf (now (bytes .entry))) from to) ⌝ }
@@ -200,7 +200,7 @@ pub fn first_is(bytes: &[u8], rows: &[u32], i: usize, to: usize, wanted: usize) 
     }
 }
 
-// The element of the tag in the container `up`, as `find_tag` finds it. Among few nodes `find_inside` does not call this, so the compiler
+// The element of the tag in the container `up`, as `find_tag` finds it. Among few nodes `find_in_item` does not call this, so the compiler
 // keeps it out of its callers.
 fn find_wide(bytes: &[u8], rows: &[u32], up: usize, to: usize, wanted: usize) -> Num
     requires { ⌜ Table (now bytes) (now rows) × Container (now bytes) up to ⌝ }
@@ -211,8 +211,8 @@ fn find_wide(bytes: &[u8], rows: &[u32], up: usize, to: usize, wanted: usize) ->
     first_is(bytes, rows, i, to, wanted)
 }
 
-// The element of the tag in the node `holder`.
-pub fn find_inside(bytes: &[u8], rows: &[u32], holder: usize, wanted: usize) -> Num
+// The element of the tag in an item, or directly in another node, `holder`.
+pub fn find_in_item(bytes: &[u8], rows: &[u32], holder: usize, wanted: usize) -> Num
     requires { ⌜ Table (now bytes) (now rows) × (holder < length (nodesOf (now bytes))) ⌝ }
     ensures { λ r. ⌜ r ≡ find (nodesOf (now (bytes .entry))) wanted (inside (nodesOf (now (bytes .entry))) holder) ⌝ }
     ensures { λ r. ⌜ Below (length (nodesOf (now (bytes .entry)))) r ⌝ }
@@ -225,7 +225,7 @@ pub fn find_inside(bytes: &[u8], rows: &[u32], holder: usize, wanted: usize) -> 
 }
 
 // The element of the tag in the root.
-pub fn find_top(bytes: &[u8], rows: &[u32], wanted: usize) -> Num
+pub fn find_root(bytes: &[u8], rows: &[u32], wanted: usize) -> Num
     requires { ⌜ Table (now bytes) (now rows) ⌝ }
     ensures { λ r. ⌜ r ≡ find (nodesOf (now (bytes .entry))) wanted (root (nodesOf (now (bytes .entry)))) ⌝ }
     ensures { λ r. ⌜ Below (length (nodesOf (now (bytes .entry)))) r ⌝ }

@@ -6,7 +6,7 @@ use native.Mathlib.Omega.{arith}
 use lib.ListN.{length, take, drop, length-drop, drop-of-length-le}
 use lib.Seq.{take-length, drop-append-seam, drop-drop}
 use Rattle.pixel.specs.Contracts.{painted}
-use Rattle.lines.specs.Contracts.{upTo}
+use Rattle.basics.specs.Lists.{upTo}
 use Rattle.lines.proofs.Lists.{upTo-length, upTo-plus, painted-list, painted-take}
 
 -- A picture painted up to a place, and the line that begins there.

@@ -19,8 +19,8 @@ use Rattle.basics.specs.Bytes.{le16, leNumber}
 use Rattle.value.specs.Number.{usValues}
 use Rattle.shift.specs.Shift.{largestShift}
 use Rattle.pixel.specs.declared.Geometry.{Geometry}
-use Rattle.pixel.specs.Pixel.{samplesOf, isFrame, sampleAt, sumAt, averageOf, maskAt}
-use Rattle.pixel.specs.Contracts.{painted, Masks, cellAt, plainPlace, maskPlace, RowLies, paintedFrom, Summed, Spread, shifted}
+use Rattle.pixel.specs.Pixel.{samplesOf, isFrame, sampleAt, sumAt, averageOf, maskAt, cellAt}
+use Rattle.pixel.specs.Contracts.{painted, Masks, plainPlace, maskPlace, RowLies, paintedFrom, Summed, Spread, shifted}
 use Rattle.pixel.specs.Contracts.{rowShade}
 use Rattle.pixel.specs.Contracts.{edges, farthest, offsetShade}
 use Rattle.pixel.proofs.Division.{average-most}

@@ -1,22 +1,22 @@
 -- What the functions of this crate require of and promise each other. None of this is in the papers.
-use Prim.Native.Nat.{ℕ, zero, suc, _+_, _-_, _^_, _*_, _/_, _%_, _≤_, _<_, min}
-use mathlib.Core.List.{List, [], _∷_}
-use lib.ListN.{getD, set, length}
-use Rattle.window.specs.Contracts.{shadePlaces}
-use Rattle.basics.specs.Bytes.{leNumber}
-use Rattle.shift.specs.declared.Moves.{Moves}
-use Rattle.pixel.specs.declared.Geometry.{Geometry}
-use Rattle.pixel.specs.Pixel.{sampleAt, blendedAt, isFrame, sumAt, averageOf, maskAt, placeOf, restOf, blockOf, weightsOf}
-use Rattle.pixel.specs.Pixel.{blendOf}
 use mathlib.Core.Path.{_≡_}
 use mathlib.Core.Bool.{true}
+use mathlib.Core.List.{List, [], _∷_}
 use mathlib.Core.Logic.{_⊎_}
+use Prim.Native.Nat.{ℕ, zero, suc, _+_, _-_, _^_, _*_, _/_, _%_, _≤_, _<_, min}
+use lib.ListN.{getD, set, length}
+use Rattle.basics.specs.Limits.{lastFrame, mostMaskFrames}
 use Rattle.value.specs.Number.{usValues}
 use Rattle.value.specs.declared.Signed.{Signed}
 use Rattle.shift.specs.Shift.{shiftUnit, largestShift, largestMove}
+use Rattle.shift.specs.declared.Moves.{Moves}
+use Rattle.window.specs.Contracts.{shadePlaces}
+use Rattle.pixel.specs.declared.Geometry.{Geometry}
+use Rattle.pixel.specs.Pixel.{sampleAt, blendedAt, isFrame, sumAt, averageOf, maskAt, placeOf, restOf, blockOf, weightsOf}
+use Rattle.pixel.specs.Pixel.{cellAt, blendOf}
 
--- What the painting functions write: one byte for each sample of the frame, from a table of shades. The place in the table is sample -
--- mask + 2^stored - 1; a native sample takes the place that a mask of 2^(stored - 1) would give it.
+-- ---- What the painting functions write: one byte for each sample of the frame, from a table of shades. The place in the table is
+-- sample - mask + 2^stored - 1; a native sample takes the place that a mask of 2^(stored - 1) would give it.
 
 -- The first n bytes of an image are f 0, f 1, ..; it is untouched beyond them.
 unfoldable pub painted : (ℕ → ℕ) → ℕ → List ℕ → List ℕ
@@ -29,17 +29,26 @@ nativeShade table g v f i = getD table (sampleAt g v f i + (2 ^ g .stored - 1 - 
 unfoldable pub maskedShade : List ℕ → Geometry → List ℕ → ℕ → List ℕ → Moves → ℕ → ℕ
 maskedShade table g v f ks m i = getD table (sampleAt g v f i + (2 ^ g .stored - 1) - blendedAt g v ks m i) 0
 
--- What contracts need beside the definitions of a picture: what drawing requires, and what each part of the code computes.
-
 -- ---- Room for moves
 
 -- The places of a row beside its columns: the largest move at either edge, and one more for the right neighbour.
 abbrev pub edges : ℕ
 edges = 2 * largestShift + 1
 
+-- The most rows and columns of a frame: each number is a US.
+abbrev pub largestSide : ℕ
+largestSide = 65535
+
 -- The places of the longest row.
 abbrev pub longestRow : ℕ
-longestRow = 65535 + edges
+longestRow = largestSide + edges
+
+-- The largest sample, of 16 bits, and the largest sum of the mask frames' samples at one place.
+abbrev pub largestSample : ℕ
+largestSample = 65535
+
+abbrev pub largestSum : ℕ
+largestSum = mostMaskFrames * largestSample
 
 -- The largest offset of a whole move, and of one in quarters (see `shifted`, `OffsetOf`).
 abbrev pub farthest : ℕ
@@ -56,29 +65,25 @@ pub record Shaped (g : Geometry) : Type 0 where
   pub stored-some : 1 ≤ g .stored
   pub stored-most : g .stored ≤ 16
   pub rows-some : 1 ≤ g .rows
-  pub rows-most : g .rows ≤ 65535
+  pub rows-most : g .rows ≤ largestSide
   pub columns-some : 1 ≤ g .columns
-  pub columns-most : g .columns ≤ 65535
+  pub columns-most : g .columns ≤ largestSide
 
 -- Mask frames: 1 to 64 numbers of frames.
 pub record Masks (pixels : List ℕ) (g : Geometry) (masks : List ℕ) : Type 0 where
   pub some : 1 ≤ length (usValues masks)
-  pub few : length (usValues masks) ≤ 64
+  pub few : length (usValues masks) ≤ mostMaskFrames
   pub frames : (k : ℕ) → k < length (usValues masks) → isFrame g pixels (getD (usValues masks) k 0) ≡ true
 
 -- ---- Numbers below which no product passes 64 bits
 
 pub record SmallProducts (g : Geometry) (k : ℕ) : Type 0 where
-  pub rows : g .rows ≤ 65535
-  pub columns : g .columns ≤ 65535
+  pub rows : g .rows ≤ largestSide
+  pub columns : g .columns ≤ largestSide
   pub width : g .width ≤ 8191
-  pub number : k ≤ 65535
+  pub number : k ≤ lastFrame
 
 -- ---- Samples
-
--- Sample j of all frames, counted from 0.
-unfoldable pub cellAt : Geometry → List ℕ → ℕ → ℕ
-cellAt g v j = leNumber (g .width) v (j * g .width) % 2 ^ g .stored
 
 -- The place of sample j in a table of shades, where it takes no mask, and where it takes mask values that begin at an offset.
 unfoldable pub plainPlace : Geometry → List ℕ → ℕ → ℕ
@@ -159,7 +164,7 @@ offsetShade table g v f ks down right i =
 pub record Drawn (v : List ℕ) (g : Geometry) (n s : ℕ) (table sums line : List ℕ) : Type 0 where
   pub row : RowLies v g 0
   pub some : 1 ≤ n
-  pub few : n ≤ 64
+  pub few : n ≤ mostMaskFrames
   pub most : s ≤ farthest
   pub shades : shadePlaces ≤ length table
   pub summed : (j : ℕ) → j < g .columns + edges → (j < length sums) × (getD sums j 0 ≤ n * (2 ^ g .stored - 1))

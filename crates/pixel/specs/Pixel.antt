@@ -25,6 +25,10 @@ isFrame g v k = leb 1 k && leb (k * samplesOf g * g .width) (length v)
 unfoldable pub sampleAt : Geometry → List ℕ → ℕ → ℕ → ℕ
 sampleAt g v k i = leNumber (g .width) v (((k - 1) * samplesOf g + i) * g .width) % 2 ^ g .stored
 
+-- The same counted over all frames: sample j, from 0.
+unfoldable pub cellAt : Geometry → List ℕ → ℕ → ℕ
+cellAt g v j = leNumber (g .width) v (j * g .width) % 2 ^ g .stored
+
 -- Step 3. The mask is floor((2S + n) / 2n), S the sum of the n mask frames' cells.
 unfoldable pub sumAt : Geometry → List ℕ → List ℕ → ℕ → ℕ
 sumAt g v [] i = 0
@@ -83,7 +87,7 @@ blockOf f = (f 0 0 ∷ f 0 1 ∷ []) ∷ (f 1 0 ∷ f 1 1 ∷ []) ∷ []
 
 -- The four weights in reading order, for a quarters down and b to the right.
 abbrev pub weightsOf : ℕ → ℕ → List ℕ
-weightsOf a b = (4 - a) * (4 - b) ∷ (4 - a) * b ∷ a * (4 - b) ∷ a * b ∷ []
+weightsOf a b = (shiftUnit - a) * (shiftUnit - b) ∷ (shiftUnit - a) * b ∷ a * (shiftUnit - b) ∷ a * b ∷ []
 
 -- The sum by the weights, plus 8, divided by 16, rounded down.
 unfoldable pub blendOf : List (List ℕ) → List ℕ → ℕ

@@ -5,13 +5,14 @@ ghost use lib.ListN.{length, getD};
 ghost use Rattle.window.specs.Contracts.{shadePlaces};
 ghost use Rattle.value.specs.Contracts.{SizeBelow};
 ghost use Rattle.value.specs.Number.{usValues};
-ghost use Rattle.shift.specs.Shift.{largestShift};
+ghost use Rattle.basics.specs.Limits.{mostMaskFrames};
+ghost use Rattle.shift.specs.Shift.{shiftUnit, largestShift};
 ghost use Rattle.shift.specs.Contracts.{tooFar};
-ghost use Rattle.pixel.specs.Pixel.{isFrame, averageOf, weightsOf, blendOf};
-ghost use Rattle.pixel.specs.Contracts.{painted, edges, Masks, SmallProducts, Shaped, cellAt, plainPlace, maskPlace, Lies, RowLies};
-ghost use Rattle.pixel.specs.Contracts.{OffsetOf};
-ghost use Rattle.pixel.specs.Contracts.{shifted, Summed, Spread, Averaged, Cells, Weights, paintedFrom, rowShade, Drawn, Blends};
-ghost use Rattle.pixel.specs.Contracts.{blendsAt, Subtracts};
+ghost use Rattle.pixel.specs.Pixel.{isFrame, averageOf, weightsOf, blendOf, cellAt};
+ghost use Rattle.pixel.specs.Contracts.{painted, edges, largestSide, largestSample, largestSum, Masks, SmallProducts, Shaped};
+ghost use Rattle.pixel.specs.Contracts.{plainPlace, maskPlace, Lies, RowLies, OffsetOf, shifted, Summed, Spread, Averaged, Cells};
+ghost use Rattle.pixel.specs.Contracts.{Weights, paintedFrom, rowShade, Drawn, Blends, blendsAt, Subtracts};
+use basics::less;
 use basics::u16_at;
 use basics::wide;
 use basics::wider;
@@ -35,14 +36,19 @@ const MARGIN: usize = 64;
 // Moves and offsets count quarters of a pixel.
 pub const UNIT: usize = 4;
 
-// The largest move in quarters.
-const MOST: usize = UNIT * MARGIN;
+// A whole pixel and the largest move, in quarters.
+const WHOLE: u32 = UNIT as u32;
+
+const LARGEST_MOVE: usize = UNIT * MARGIN;
 
 // A row's room beside its columns: the two edges, and one place more for the right neighbour.
 pub const EDGES: usize = 2 * MARGIN + 1;
 
+// The most rows and columns of a frame: each number is a US.
+const LARGEST_SIDE: usize = 65_535;
+
 // The longest row with its edges.
-pub const LONGEST: usize = 65535 + EDGES;
+pub const LONGEST: usize = LARGEST_SIDE + EDGES;
 
 // ---- Frames
 
@@ -94,12 +100,6 @@ pub fn plain_row(line: &[u8], g: Geometry, table: &[u8], levels: &mut [u8])
 
 // ---- Moves
 
-fn less(i: usize, n: usize) -> usize
-    ensures { λ r. ⌜ r ≡ i - n ⌝ }
-{
-    if n <= i { i - n } else { 0 }
-}
-
 fn at_most(i: usize, most: usize) -> usize
     ensures { λ r. ⌜ r ≡ min i most ⌝ }
 {
@@ -113,15 +113,15 @@ pub fn offset_of(m: Signed) -> usize
     ensures { λ r. ⌜ OffsetOf m r ⌝ }
 {
     match m {
-        Signed::Plus(n) => MOST - n,
-        Signed::Minus(n) => MOST + n,
-        Signed::None => MOST,
+        Signed::Plus(n) => LARGEST_MOVE - n,
+        Signed::Minus(n) => LARGEST_MOVE + n,
+        Signed::None => LARGEST_MOVE,
     }
 }
 
 // The place that place i takes by an offset, among `size` places.
 pub fn moved(s: usize, size: usize, i: usize) -> usize
-    requires { ⌜ (i < size) × ((size ≤ 65535) × (s ≤ edges)) ⌝ }
+    requires { ⌜ (i < size) × ((size ≤ largestSide) × (s ≤ edges)) ⌝ }
     ensures { λ r. ⌜ (r ≡ shifted s size i) × (r < size) ⌝ }
 {
     at_most(less(i + s, MARGIN), size - 1)
@@ -194,7 +194,7 @@ pub fn mask_row(pixels: &[u8], g: Geometry, masks: &[u8], row: usize, sums: &mut
 
 // floor((2 sum + n) / 2n), by a multiplication.
 fn average(sum: usize, n: usize, factor: usize) -> usize
-    requires { ⌜ (1 ≤ n) × ((n ≤ 64) × ((sum ≤ 4194240) × (factor ≡ 4294967296 / (2 * n) + 1))) ⌝ }
+    requires { ⌜ (1 ≤ n) × ((n ≤ mostMaskFrames) × ((sum ≤ largestSum) × (factor ≡ 4294967296 / (2 * n) + 1))) ⌝ }
     ensures { λ r. ⌜ r ≡ averageOf sum n ⌝ }
 {
     (2 * sum + n) * factor / SCALE
@@ -226,7 +226,8 @@ pub fn draw_row(
 
 // A row of sums of n mask frames' samples becomes a row of averages.
 fn average_all(n: usize, count: usize, sums: &mut [u32])
-    requires { ⌜ (1 ≤ n) × ((n ≤ 64) × ((count ≤ length (now sums)) × ((j : ℕ) → j < count → getD (now sums) j 0 ≤ 4194240))) ⌝ }
+    requires { ⌜ (1 ≤ n)
+        × ((n ≤ mostMaskFrames) × ((count ≤ length (now sums)) × ((j : ℕ) → j < count → getD (now sums) j 0 ≤ largestSum))) ⌝ }
     ensures { λ _. ⌜ now (sums .exit) ≡ painted (λ j. averageOf (getD (now (sums .entry)) j 0) n) count (now (sums .entry)) ⌝ }
 {
     let factor = SCALE / (2 * n) + 1;
@@ -256,15 +257,20 @@ pub fn copy(count: usize, from: &[u32], to: &mut [u32])
 
 // The four weights, in reading order, for a quarters down and b to the right.
 pub fn weights(a: u32, b: u32) -> [u32; 4]
-    requires { ⌜ (a < 4) × (b < 4) ⌝ }
+    requires { ⌜ (a < shiftUnit) × (b < shiftUnit) ⌝ }
     ensures { λ r. ⌜ r ≡ weightsOf a b ⌝ }
 {
-    [(4 - a) * (4 - b), (4 - a) * b, a * (4 - b), a * b]
+    [
+        (WHOLE - a) * (WHOLE - b),
+        (WHOLE - a) * b,
+        a * (WHOLE - b),
+        a * b,
+    ]
 }
 
 // The four neighbouring mask cells, two by two, by the four weights, in sixteenths, rounded.
-pub fn blended(block: [[u32; 2]; 2], weights: [u32; 4]) -> u32
-    requires { ⌜ Cells 65535 block × Weights weights ⌝ }
+fn blended(block: [[u32; 2]; 2], weights: [u32; 4]) -> u32
+    requires { ⌜ Cells largestSample block × Weights weights ⌝ }
     ensures { λ r. ⌜ r ≡ blendOf block weights ⌝ }
 {
     (block[0][0] * weights[0]

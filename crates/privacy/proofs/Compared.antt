@@ -10,12 +10,12 @@ use Rattle.privacy.specs.Alike.{Alike, SamePixels}
 use Rattle.privacy.proofs.Shown.{is-frame-same, size-same, picture-same}
 
 module _ {ns ms : List Node} (a : Alike ns ms) (b : SamePixels ns ms) where
-  accepted-same : (f : ℕ) (cells : List ℕ) (t n : ℕ) → acceptedAnswer ns f cells t n ≡ acceptedAnswer ms f cells t n
+  compare-accepted-same : (f : ℕ) (cells : List ℕ) (t n : ℕ) → acceptedAnswer ns f cells t n ≡ acceptedAnswer ms f cells t n
   unfolding acceptedAnswer
-  accepted-same f cells t n = rw (is-frame-same a f, size-same a, picture-same a b f)
+  compare-accepted-same f cells t n = rw (is-frame-same a f, size-same a, picture-same a b f)
 
   pub compared-same : (f : ℕ) (cells : List ℕ) (t : ℕ) (r : JudgeAnswer) → answerFor ns f cells t r ≡ answerFor ms f cells t r
-  compared-same f cells t (judged.Accepted n) = accepted-same f cells t n
+  compared-same f cells t (judged.Accepted n) = compare-accepted-same f cells t n
   compared-same f cells t (judged.Broken n rule frame) = refl
   compared-same f cells t (judged.Refused code offset) = refl
   compared-same f cells t judged.TooLarge = refl

@@ -72,9 +72,9 @@ module _ {ns ms : List Node} (a : Alike ns ms) where
   unfolding rule29 item29
   rule29-same f = at-same f (item29 ns) (item29 ms) (if-group Tags.XAXRFFrameCharacteristicsSequence (oneItem ns) (oneItem ms) (one-same a))
 
-  window-same : (is : List ℕ) → hasWindow ns is ≡ hasWindow ms is
+  rule-window-same : (is : List ℕ) → hasWindow ns is ≡ hasWindow ms is
   unfolding hasWindow isRead
-  window-same is =
+  rule-window-same is =
       rw (← vr-same a DS Tags.WindowCenter is, ← vr-same a DS Tags.WindowWidth is, function-same a is)
       (holds-same (findVr ns Tags.WindowCenter DS is) _ _ (λ c e.
       holds-same (findVr ns Tags.WindowWidth DS is) _ _ (λ w d.
@@ -82,7 +82,7 @@ module _ {ns ms : List Node} (a : Alike ns ms) where
 
   voi-same : (g : ℕ) → isVoi ns g ≡ isVoi ms g
   unfolding isVoi
-  voi-same g = rw (the-same a g) (holds-same (theItem ms g) _ _ (λ j _. rw (inside-same a j) (window-same (inside ms j))))
+  voi-same g = rw (the-same a g) (holds-same (theItem ms g) _ _ (λ j _. rw (inside-same a j) (rule-window-same (inside ms j))))
 
   pub rule30-same : (f : ℕ) → rule30 ns f ≡ rule30 ms f
   unfolding rule30 item30
@@ -122,25 +122,25 @@ module _ {ns ms : List Node} (a : Alike ns ms) where
   unfolding isOperation
   is-operation-same j = rw (operation-same a (ascii "NONE") j, operation-same a (ascii "AVG_SUB") j, operation-same a (ascii "TID") j)
 
-  mask-same : (m : ℕ) → isMask ns m ≡ isMask ms m
+  rule-mask-same : (m : ℕ) → isMask ns m ≡ isMask ms m
   unfolding isMask
-  mask-same m = rw (a .vr m, inside-same a m, every-same (isOperation ns) (isOperation ms) is-operation-same (inside ms m))
+  rule-mask-same m = rw (a .vr m, inside-same a m, every-same (isOperation ns) (isOperation ms) is-operation-same (inside ms m))
 
   pub rule31-same : rule31 ns ≡ rule31 ms
   unfolding rule31
   rule31-same =
-      rw (find-root a Tags.MaskSubtractionSequence) (if-same (find ms Tags.MaskSubtractionSequence (root ms)) _ _ (λ m _. mask-same m))
+      rw (find-root a Tags.MaskSubtractionSequence) (if-same (find ms Tags.MaskSubtractionSequence (root ms)) _ _ (λ m _. rule-mask-same m))
 
-  range-same : (n j : ℕ) → rangeFits ns n j ≡ rangeFits ms n j
+  rule-range-same : (n j : ℕ) → rangeFits ns n j ≡ rangeFits ms n j
   unfolding rangeFits isRange isRead
-  range-same n j =
+  rule-range-same n j =
       rw (inside-same a j, ← find-same a Tags.ApplicableFrameRange (inside ms j))
       (if-same (find ns Tags.ApplicableFrameRange (inside ms j)) _ _
       (λ r e. rw (value-same a Tags.ApplicableFrameRange refl (inside ms j) r e, a .vr r)))
 
   pub rule32-same : rule32 ns ≡ rule32 ms
   unfolding rule32
-  rule32-same = rw (frames-same a) (holds-same (framesOf ms) _ _ (λ n _. every-mask (rangeFits ns n) (rangeFits ms n) (range-same n)))
+  rule32-same = rw (frames-same a) (holds-same (framesOf ms) _ _ (λ n _. every-mask (rangeFits ns n) (rangeFits ms n) (rule-range-same n)))
 
   one-value-same : (j k : ℕ) → find ns Tags.ContrastFrameAveraging (inside ms j) ≡ Is k → isOne ns k ≡ isOne ms k
   unfolding isOne ofVr isRead
@@ -151,9 +151,9 @@ module _ {ns ms : List Node} (a : Alike ns ms) where
       go true = rw (value-same a Tags.ContrastFrameAveraging refl (inside ms j) k e)
       go false = refl
 
-  average-same : (n j : ℕ) → averageFits ns n j ≡ averageFits ms n j
+  rule-average-same : (n j : ℕ) → averageFits ns n j ≡ averageFits ms n j
   unfolding averageFits isRead
-  average-same n j =
+  rule-average-same n j =
       rw (
         inside-same a j,
         test-same a Tags.MaskFrameNumbers refl (inside ms j) US (areMaskFrames n),
@@ -164,34 +164,34 @@ module _ {ns ms : List Node} (a : Alike ns ms) where
 
   averages-same : (n j : ℕ) → averagesFit ns n j ≡ averagesFit ms n j
   unfolding averagesFit
-  averages-same n j = rw (operation-same a (ascii "AVG_SUB") j, average-same n j)
+  averages-same n j = rw (operation-same a (ascii "AVG_SUB") j, rule-average-same n j)
 
   pub rule33-same : rule33 ns ≡ rule33 ms
   unfolding rule33
   rule33-same = rw (frames-same a)
       (holds-same (framesOf ms) _ _ (λ n _. every-mask (averagesFit ns n) (averagesFit ms n) (averages-same n)))
 
-  offset-same : (j : ℕ) → offsetFits ns j ≡ offsetFits ms j
+  rule-offset-same : (j : ℕ) → offsetFits ns j ≡ offsetFits ms j
   unfolding offsetFits isOffset isRead
-  offset-same j =
+  rule-offset-same j =
       rw (operation-same a (ascii "TID") j, inside-same a j, ← find-same a Tags.TIDOffset (inside ms j))
       (ap (λ (b : Bool). cond (operationIs ms (ascii "TID") j) b true)
       (if-same (find ns Tags.TIDOffset (inside ms j)) _ _ (λ k e. rw (a .vr k, value-same a Tags.TIDOffset refl (inside ms j) k e))))
 
   pub rule34-same : rule34 ns ≡ rule34 ms
   unfolding rule34
-  rule34-same = every-mask (offsetFits ns) (offsetFits ms) offset-same
+  rule34-same = every-mask (offsetFits ns) (offsetFits ms) rule-offset-same
 
-  shift-same : (j : ℕ) → shiftFits ns j ≡ shiftFits ms j
+  rule-shift-same : (j : ℕ) → shiftFits ns j ≡ shiftFits ms j
   unfolding shiftFits isShiftAt isRead
-  shift-same j =
+  rule-shift-same j =
       rw (inside-same a j, ← find-same a Tags.MaskSubPixelShift (inside ms j))
       (if-same (find ns Tags.MaskSubPixelShift (inside ms j)) _ _
       (λ k e. rw (a .vr k, value-same a Tags.MaskSubPixelShift refl (inside ms j) k e)))
 
   pub rule35-same : rule35 ns ≡ rule35 ms
   unfolding rule35
-  rule35-same = every-mask (shiftFits ns) (shiftFits ms) shift-same
+  rule35-same = every-mask (shiftFits ns) (shiftFits ms) rule-shift-same
 
   shift-had : (s i : ℕ) → hasShiftGroup ns s i ≡ hasShiftGroup ms s i
   unfolding hasShiftGroup filled ofVr
@@ -219,14 +219,14 @@ module _ {ns ms : List Node} (a : Alike ns ms) where
 
   -- ---- Rule 39
 
-  linear-same : (j : ℕ) → isLinear ns j ≡ isLinear ms j
+  rule-linear-same : (j : ℕ) → isLinear ns j ≡ isLinear ms j
   unfolding isLinear isRead
-  linear-same j = rw (inside-same a j) (cs-same a Tags.LUTFunction refl (inside ms j) (ascii "TO_LINEAR"))
+  rule-linear-same j = rw (inside-same a j) (cs-same a Tags.LUTFunction refl (inside ms j) (ascii "TO_LINEAR"))
 
   pub among-same : (js : List ℕ) → linearAmong ns js ≡ linearAmong ms js
   unfolding linearAmong
   among-same [] = refl
-  among-same (j ∷ js) = rw (linear-same j, among-same js)
+  among-same (j ∷ js) = rw (rule-linear-same j, among-same js)
 
   lut-same : (j : ℕ) → hasLut ns j ≡ hasLut ms j
   unfolding hasLut isRead

@@ -11,12 +11,12 @@ use Rattle.privacy.proofs.Steps.{is-mapped-same, mapping-same}
 use Rattle.privacy.proofs.Shown.{is-frame-same, size-same}
 
 module _ {ns ms : List Node} (a : Alike ns ms) where
-  accepted-same : (f : ℕ) (values : List ℕ) (n : ℕ) → acceptedAnswer ns f values n ≡ acceptedAnswer ms f values n
+  linear-accepted-same : (f : ℕ) (values : List ℕ) (n : ℕ) → acceptedAnswer ns f values n ≡ acceptedAnswer ms f values n
   unfolding acceptedAnswer
-  accepted-same f values n = rw (is-frame-same a f, size-same a, is-mapped-same a f)
+  linear-accepted-same f values n = rw (is-frame-same a f, size-same a, is-mapped-same a f)
 
   pub linear-same : (f : ℕ) (values : List ℕ) (r : JudgeAnswer) → answerFor ns f values r ≡ answerFor ms f values r
-  linear-same f values (judged.Accepted n) = accepted-same f values n
+  linear-same f values (judged.Accepted n) = linear-accepted-same f values n
   linear-same f values (judged.Broken n rule frame) = refl
   linear-same f values (judged.Refused code offset) = refl
   linear-same f values judged.TooLarge = refl

@@ -38,8 +38,8 @@ pair =
       sizes = sizes .0;
       other-sizes = sizes .1;
       accepted = drawn .0;
-      other-accepted = ap (λ (x : JudgeAnswer). fieldsOf x .code) (sym (same .judged buffer)) ∙ drawn .0;
+      other-accepted = ap (λ (x : JudgeAnswer). fieldsOf x .code) (sym (same .alike .judged buffer)) ∙ drawn .0;
       drawn = drawn .1 .0;
       picture = drawn .1 .1;
-      other-picture = sym (same .picture 1 buffer image) ∙ drawn .1 .1;
+      other-picture = sym (same .alike .picture 1 buffer image) ∙ drawn .1 .1;
     }

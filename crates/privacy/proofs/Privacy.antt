@@ -125,13 +125,15 @@ module _ (s t : List ℕ) (p : SameButPatient s t) where
   answers : SameAnswers s t
   answers =
       record {
-        judged = judged-same;
-        searches = reported-same;
+        alike = record {
+          judged = judged-same;
+          searches = reported-same;
+          shown = show-same;
+          picture = image-same;
+          sampled = sheet-same;
+          compared = comparison-same;
+        };
         slip = λ buffer. ap (λ (r : JudgeAnswer). slipOf (verdictOf r)) (judged-same buffer);
-        shown = show-same;
-        picture = image-same;
-        sampled = sheet-same;
-        compared = comparison-same;
         mapped = mapped-same;
         intensities = values-same;
       }

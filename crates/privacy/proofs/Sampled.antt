@@ -27,12 +27,12 @@ module _ {ns ms : List Node} (a : Alike ns ms) (b : SamePixels ns ms) where
   unfolding framesSheet
   sheet-same f l = rw (levels-same f (l - f + 1), natives-same f (l - f + 1))
 
-  accepted-same : (f l n : ℕ) → acceptedAnswer ns f l n ≡ acceptedAnswer ms f l n
+  sheet-accepted-same : (f l n : ℕ) → acceptedAnswer ns f l n ≡ acceptedAnswer ms f l n
   unfolding acceptedAnswer
-  accepted-same f l n = rw (is-frame-same a f, is-frame-same a l)
+  sheet-accepted-same f l n = rw (is-frame-same a f, is-frame-same a l)
 
   answer-same : (f l : ℕ) (r : JudgeAnswer) → answerFor ns f l r ≡ answerFor ms f l r
-  answer-same f l (judged.Accepted n) = accepted-same f l n
+  answer-same f l (judged.Accepted n) = sheet-accepted-same f l n
   answer-same f l (judged.Broken n rule frame) = refl
   answer-same f l (judged.Refused code offset) = refl
   answer-same f l judged.TooLarge = refl

@@ -1,4 +1,4 @@
--- Nodes that are alike and have the same Pixel Data are drawn the same, and so are the sheets of their frames.
+-- Nodes that are alike and have the same Pixel Data are drawn the same, since every step reads nodes alone.
 use mathlib.Core.Path.{_≡_, refl}
 use Prim.Native.Nat.{ℕ}
 use mathlib.Core.List.{List}
@@ -25,12 +25,12 @@ module _ {ns ms : List Node} (a : Alike ns ms) where
     unfolding pictureOf
     picture-same f = rw (steps-same a b f)
 
-    accepted-same : (f : ℕ) (image : List ℕ) (n : ℕ) → acceptedAnswer ns f image n ≡ acceptedAnswer ms f image n
+    show-accepted-same : (f : ℕ) (image : List ℕ) (n : ℕ) → acceptedAnswer ns f image n ≡ acceptedAnswer ms f image n
     unfolding acceptedAnswer
-    accepted-same f image n = rw (is-frame-same f, size-same, picture-same f)
+    show-accepted-same f image n = rw (is-frame-same f, size-same, picture-same f)
 
     pub shown-same : (f : ℕ) (image : List ℕ) (r : JudgeAnswer) → answerFor ns f image r ≡ answerFor ms f image r
-    shown-same f image (judged.Accepted n) = accepted-same f image n
+    shown-same f image (judged.Accepted n) = show-accepted-same f image n
     shown-same f image (judged.Broken n rule frame) = refl
     shown-same f image (judged.Refused code offset) = refl
     shown-same f image judged.TooLarge = refl

@@ -22,7 +22,7 @@ use Rattle.steps.specs.Given.{need, check, then}
 use Rattle.steps.specs.Steps.{Mask, native, masked, geometryOf, pixelsOf, orShared, groupFor, rangeHas, rangeHolds, firstHolding, onMask}
 use Rattle.steps.specs.Steps.{applyingTo, averageFrames, offsetAt, offsetOf, tidFrame, naming, ownIn, itemShiftAt, shiftFrom, shiftFor}
 use Rattle.steps.specs.Steps.{movesFor, onTid, maskBy, maskOn, maskFor, windowIn, windowOn, windowFor, inverseOf, stepsOf}
-use Rattle.linear.specs.Mapping.{linearOn, linearFor, mappingBy, mappingOf, isMapped}
+use Rattle.linear.specs.Mapping.{linearOn, linearFor, mappingBy, mappingOf, hasLinearItem}
 use Rattle.privacy.specs.Read.{isRead}
 use Rattle.privacy.specs.Alike.{Alike, SamePixels}
 use Rattle.privacy.proofs.Words.{inside-same, find-same, find-root, find-tag, vr-same, vr-root, value-same, value-vr-same, us-root}
@@ -69,9 +69,9 @@ module _ {ns ms : List Node} (a : Alike ns ms) where
 
   -- ---- Step 2
 
-  range-same : (f j : ℕ) → rangeHolds ns f j ≡ rangeHolds ms f j
+  step-range-same : (f j : ℕ) → rangeHolds ns f j ≡ rangeHolds ms f j
   unfolding rangeHolds isRead
-  range-same f j = rw (inside-same a j, ← find-same a Tags.ApplicableFrameRange (inside ms j))
+  step-range-same f j = rw (inside-same a j, ← find-same a Tags.ApplicableFrameRange (inside ms j))
       (go (find ns Tags.ApplicableFrameRange (inside ms j)) refl)
     where
       go : (o : Num) → find ns Tags.ApplicableFrameRange (inside ms j) ≡ o → rangeHas ns f o ≡ rangeHas ms f o
@@ -81,7 +81,7 @@ module _ {ns ms : List Node} (a : Alike ns ms) where
   holding-same : (f : ℕ) (js : List ℕ) → firstHolding ns f js ≡ firstHolding ms f js
   unfolding firstHolding
   holding-same f [] = refl
-  holding-same f (j ∷ js) = rw (range-same f j, holding-same f js)
+  holding-same f (j ∷ js) = rw (step-range-same f j, holding-same f js)
 
   applying-same : (f : ℕ) → applyingTo ns f ≡ applyingTo ms f
   unfolding applyingTo
@@ -93,16 +93,16 @@ module _ {ns ms : List Node} (a : Alike ns ms) where
 
   -- ---- Step 3
 
-  average-same : (j : ℕ) → averageFrames ns j ≡ averageFrames ms j
+  step-average-same : (j : ℕ) → averageFrames ns j ≡ averageFrames ms j
   unfolding averageFrames isRead
-  average-same j =
+  step-average-same j =
       rw (inside-same a j, ← vr-same a US Tags.MaskFrameNumbers (inside ms j))
       (need-same (findVr ns Tags.MaskFrameNumbers US (inside ms j)) _ _
       (λ k e. rw (value-vr-same a Tags.MaskFrameNumbers refl (inside ms j) US k e)))
 
-  offset-same : (j : ℕ) → offsetOf ns j ≡ offsetOf ms j
+  step-offset-same : (j : ℕ) → offsetOf ns j ≡ offsetOf ms j
   unfolding offsetOf isRead
-  offset-same j = rw (inside-same a j, ← find-same a Tags.TIDOffset (inside ms j)) (go (find ns Tags.TIDOffset (inside ms j)) refl)
+  step-offset-same j = rw (inside-same a j, ← find-same a Tags.TIDOffset (inside ms j)) (go (find ns Tags.TIDOffset (inside ms j)) refl)
     where
       go : (o : Num) → find ns Tags.TIDOffset (inside ms j) ≡ o → offsetAt ns o ≡ offsetAt ms o
       go None e = refl
@@ -110,7 +110,7 @@ module _ {ns ms : List Node} (a : Alike ns ms) where
 
   tid-same : (f j : ℕ) → tidFrame ns f j ≡ tidFrame ms f j
   unfolding tidFrame
-  tid-same f j = rw (offset-same j, frames-same a)
+  tid-same f j = rw (step-offset-same j, frames-same a)
 
   -- ---- Step 4
 
@@ -139,16 +139,16 @@ module _ {ns ms : List Node} (a : Alike ns ms) where
       (need-same (findVr ns Tags.MaskSubPixelShift FL (inside ms k)) _ _
       (λ x e. rw (value-vr-same a Tags.MaskSubPixelShift refl (inside ms k) FL x e)))
 
-  shift-same : (f j : ℕ) → shiftFor ns f j ≡ shiftFor ms f j
+  step-shift-same : (f j : ℕ) → shiftFor ns f j ≡ shiftFor ms f j
   unfolding shiftFor
-  shift-same f j =
+  step-shift-same f j =
       rw (group-for-same f Tags.FramePixelShiftSequence)
       (then-same (groupFor ms f Tags.FramePixelShiftSequence) _ _
       (λ g. rw (own-same j g) (then-same (ownIn ms j g) _ _ (shift-from-same j))))
 
   moves-same : (f j : ℕ) → movesFor ns f j ≡ movesFor ms f j
   unfolding movesFor
-  moves-same f j = rw (shift-same f j)
+  moves-same f j = rw (step-shift-same f j)
 
   mask-by-same : (f j : ℕ) → maskBy ns f j ≡ maskBy ms f j
   unfolding maskBy
@@ -157,7 +157,7 @@ module _ {ns ms : List Node} (a : Alike ns ms) where
         operation-same a (ascii "NONE") j,
         operation-same a (ascii "AVG_SUB") j,
         operation-same a (ascii "TID") j,
-        average-same j,
+        step-average-same j,
         moves-same f j,
         tid-same f j,
       )
@@ -170,9 +170,9 @@ module _ {ns ms : List Node} (a : Alike ns ms) where
       go None = refl
       go (Is k) = rw (moves-same f j)
 
-  mask-same : (f : ℕ) → maskFor ns f ≡ maskFor ms f
+  step-mask-same : (f : ℕ) → maskFor ns f ≡ maskFor ms f
   unfolding maskFor
-  mask-same f = rw (applying-same f) (then-same (applyingTo ms f) (maskOn ns f) (maskOn ms f) go)
+  step-mask-same f = rw (applying-same f) (then-same (applyingTo ms f) (maskOn ns f) (maskOn ms f) go)
     where
       go : (o : Applying) → maskOn ns f o ≡ maskOn ms f o
       go Nothing = refl
@@ -188,9 +188,9 @@ module _ {ns ms : List Node} (a : Alike ns ms) where
       need-same (findVr ns Tags.WindowWidth DS is) _ _ (λ w d.
       rw (value-vr-same a Tags.WindowCenter refl is DS c e, value-vr-same a Tags.WindowWidth refl is DS w d))))
 
-  window-same : (f stored : ℕ) → windowFor ns f stored ≡ windowFor ms f stored
+  step-window-same : (f stored : ℕ) → windowFor ns f stored ≡ windowFor ms f stored
   unfolding windowFor
-  window-same f stored = rw (group-for-same f Tags.FrameVOILUTSequence)
+  step-window-same f stored = rw (group-for-same f Tags.FrameVOILUTSequence)
       (then-same (groupFor ms f Tags.FrameVOILUTSequence) (windowOn ns stored) (windowOn ms stored) go)
     where
       go : (o : Num) → windowOn ns stored o ≡ windowOn ms stored o
@@ -207,8 +207,8 @@ module _ {ns ms : List Node} (a : Alike ns ms) where
   pub steps-same : SamePixels ns ms → (f : ℕ) → stepsOf ns f ≡ stepsOf ms f
   unfolding stepsOf
   steps-same b f =
-      rw (geometry-same, pixels-same b, mask-same f, inverse-same)
-      (then-same (geometryOf ms) _ _ (λ g. rw (window-same f (g .stored))))
+      rw (geometry-same, pixels-same b, step-mask-same f, inverse-same)
+      (then-same (geometryOf ms) _ _ (λ g. rw (step-window-same f (g .stored))))
 
   -- ---- Back to beam intensity
 
@@ -222,8 +222,8 @@ module _ {ns ms : List Node} (a : Alike ns ms) where
       go None = refl
       go (Is g) = rw (a .vr g, inside-same a g, among-same a (inside ms g))
 
-  pub is-mapped-same : (f : ℕ) → isMapped ns f ≡ isMapped ms f
-  unfolding isMapped
+  pub is-mapped-same : (f : ℕ) → hasLinearItem ns f ≡ hasLinearItem ms f
+  unfolding hasLinearItem
   is-mapped-same f = rw (linear-for-same f)
 
   mapping-by-same : SamePixels ns ms → (f j : ℕ) → mappingBy ns f j ≡ mappingBy ms f j

@@ -10,7 +10,7 @@ use borrow.Author.Tests.{eqb-true}
 use Rattle.value.specs.declared.Num.{Num}
 use Rattle.value.specs.declared.Num.the-variants.{Is, None}
 use Rattle.value.specs.Words.{isWord, isUid}
-use Rattle.value.specs.Number.{usOf, isOf}
+use Rattle.value.specs.Number.{usOf, integerOf}
 use Rattle.basics.specs.Vr.{SQ, CS, UI, US, IS}
 use Rattle.node.specs.Nodes.{Node, nodeAt, nextNode, membersBy, members, root, inside}
 use Rattle.node.specs.Find.{holds, ifPresent, andThen, find, ofVr, findVr, filled, has}
@@ -184,7 +184,7 @@ module _ {ns ms : List Node} (a : Alike ns ms) where
 
   pub frames-same : framesOf ns ≡ framesOf ms
   unfolding framesOf isRead
-  frames-same = rw root-same (number-same Tags.NumberOfFrames refl (root ms) IS (λ v. asCount (isOf v)))
+  frames-same = rw root-same (number-same Tags.NumberOfFrames refl (root ms) IS (λ v. asCount (integerOf v)))
 
   pub shared-same : sharedItem ns ≡ sharedItem ms
   unfolding sharedItem

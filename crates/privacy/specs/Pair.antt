@@ -5,6 +5,7 @@ use Prim.Native.Nat.{ℕ}
 use mathlib.Core.Bool.{cond}
 use mathlib.Core.List.{List, [], _∷_, _++_}
 use lib.ListN.{take, drop, replicate}
+use Rattle.basics.specs.Tags
 use Rattle.dataset.specs.Reading.{Row}
 use Rattle.dataset.specs.Tree.{rowsOf}
 use Rattle.value.specs.Text.{ascii}
@@ -21,11 +22,11 @@ plain = oneFrame "MONOCHROME2 " "IDENTITY" noWindow (7 ∷ 200 ∷ [])
 abbrev pub withPatient : List ℕ → List ℕ → List ℕ → List ℕ → List ℕ
 withPatient name id birth comments =
     take 94 plain
-    ++ (short 0x0010 0x0010 "PN" name
-    ++ (short 0x0010 0x0020 "LO" id
-    ++ (short 0x0010 0x0030 "DA" birth
+    ++ (short Tags.PatientName "PN" name
+    ++ (short Tags.PatientID "LO" id
+    ++ (short Tags.PatientBirthDate "DA" birth
     ++ (take 34 (drop 94 plain)
-    ++ (short 0x0020 0x4000 "LT" comments
+    ++ (short Tags.ImageComments "LT" comments
     ++ drop 128 plain)))))
 
 abbrev pub one : List ℕ

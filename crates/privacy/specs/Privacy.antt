@@ -1,4 +1,4 @@
--- The list on the wall (document 02, Q-7).
+-- What the values of four patient items cannot reach (document 02, Q-7, "The list on the wall").
 --
 -- Once a data set reads, nothing of four patient items reaches a verdict, a picture or a sheet. Take two data sets within the size limit
 -- that both read, with the same rows but for offsets and lengths, whose values differ only in the root elements Patient's Name
@@ -22,11 +22,8 @@ use Rattle.node.specs.Nodes.{valueIn}
 use Rattle.slip.specs.Slip.{slipOf}
 use Rattle.rules.specs.Frame.{isIn}
 use Rattle.conformance.specs.Judging.{judgeOf, verdictOf}
-use Rattle.searches.specs.Reported.{reportedOf}
-use Rattle.display.specs.Show.{showOf, imageOf}
 use Rattle.linear.specs.Answer.{linearOf, valuesLeft}
-use Rattle.sheet.specs.Answer.{sheetOf}
-use Rattle.compare.specs.Answer.{compareOf}
+use Rattle.canonical_same.specs.Answers.{AnswersAlike}
 use Rattle.privacy.specs.Rows.{SameRows}
 
 -- Patient's Name, Patient ID, Patient's Birth Date, Image Comments.
@@ -49,17 +46,10 @@ pub record SameButPatient (s t : List ℕ) : Type 0 where
 
 -- The same from every call, with any buffers and frame numbers.
 pub record SameAnswers (s t : List ℕ) : Type 0 where
-  -- Code, rule, frame and row count.
-  pub judged : (buffer : List ℕ) → judgeOf s buffer ≡ judgeOf t buffer
-  pub searches : (buffer : List ℕ) → reportedOf s buffer ≡ reportedOf t buffer
+  -- Code, rule, frame and row count of the judge, and the sum of its searches; what `show`, `sheet` and `compare` answer, and the image
+  -- buffer afterwards.
+  pub alike : AnswersAlike s t
   pub slip : (buffer : List ℕ) → slipOf (verdictOf (judgeOf s buffer)) ≡ slipOf (verdictOf (judgeOf t buffer))
-  -- The answer, and the image buffer afterwards.
-  pub shown : (frame : ℕ) (buffer image : List ℕ) → showOf s frame buffer image ≡ showOf t frame buffer image
-  pub picture : (frame : ℕ) (buffer image : List ℕ) → imageOf s frame buffer image ≡ imageOf t frame buffer image
-  -- The answer and the numbers.
-  pub sampled : (first last : ℕ) (buffer : List ℕ) → sheetOf s first last buffer ≡ sheetOf t first last buffer
-  pub compared : (frame : ℕ) (cells : List ℕ) (tolerance : ℕ) (buffer : List ℕ)
-      → compareOf s frame cells tolerance buffer ≡ compareOf t frame cells tolerance buffer
   -- The answer, and the values buffer afterwards.
   pub mapped : (frame : ℕ) (buffer values : List ℕ) → linearOf s frame buffer values ≡ linearOf t frame buffer values
   pub intensities : (frame : ℕ) (buffer values : List ℕ) → valuesLeft s frame buffer values ≡ valuesLeft t frame buffer values

@@ -1,4 +1,5 @@
--- One mask item after the other.
+-- An item takes only frames that are free, so after each the free frames are left to the items that follow, and after the last nothing is
+-- left.
 use mathlib.Core.Path.{_≡_, refl, sym, ap, _∙_, subst}
 use mathlib.Core.Bool.{Bool, true, false, cond}
 use mathlib.Core.List.{List, []}
@@ -14,7 +15,7 @@ use borrow.Author.Tests.{eq-eqb, ne-eqb, le-leb}
 use Rattle.node.specs.Nodes.{Node, nextNode, members}
 use Rattle.node.proofs.Walks.{members-end}
 use Rattle.steps.specs.declared.Applying.the-variants.{Item}
-use Rattle.steps.specs.Steps.{inPairs, rangeHolds, firstHolding}
+use Rattle.steps.specs.Steps.{isInPairs, rangeHolds, firstHolding}
 use Rattle.steps.proofs.Given.{never}
 use Rattle.steps.proofs.Laws.{holding-lacks, holding-here, holding-next}
 use Rattle.ranges.specs.Contracts.{markOf, farOf, takenBy, Cleared, Marked, Covered, CoveredBy, CoveredAll, Tried, itemOf, AllFound}
@@ -29,7 +30,7 @@ same-test e f = cc
 -- ---- Covering
 
 pub covered-pairs : (n item : ℕ) (l marked0 marked1 before after : List ℕ) → Cleared (n + 1) marked0 → Marked l marked0 marked1
-    → Covered n item marked1 before after → CoveredBy (λ f. inPairs f l) n item before after
+    → Covered n item marked1 before after → CoveredBy (λ f. isInPairs f l) n item before after
 covered-pairs n item l marked0 marked1 before after z m h =
     record {
       each = λ f low high. h .each f low high

@@ -1,4 +1,5 @@
--- What mask items say, written down for one after the other.
+-- What a mask item says comes back from its number, because the operation is the rest by 4 and the name the quotient; so a record of one
+-- item more says the same of those before it.
 use mathlib.Core.Path.{_≡_, sym, ap, _∙_, subst}
 use mathlib.Core.List.{List}
 use mathlib.Core.Logic.{dite}

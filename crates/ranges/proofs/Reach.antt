@@ -1,4 +1,5 @@
--- How far pairs reach, and what a table of marks says of it.
+-- A frame is in some pair exactly if the pairs that start at it or before reach it, and the largest mark up to the frame is how far those
+-- reach.
 use mathlib.Core.Path.{_≡_, refl, sym, ap, _∙_}
 use mathlib.Core.Bool.{Bool, true, false, cond, _&&_, _||_}
 use mathlib.Core.List.{List, [], _∷_}
@@ -9,7 +10,7 @@ use native.Mathlib.Omega.{arith}
 use lib.Dec.{eqb, leb}
 use lib.ListN.{getD}
 use borrow.Author.Tests.{eq-eqb, ne-eqb, le-leb, lt-leb}
-use Rattle.steps.specs.Steps.{inPairs}
+use Rattle.steps.specs.Steps.{isInPairs}
 use Rattle.ranges.specs.Contracts.{markOf, reachOf, farOf}
 
 pub either : (a b : ℕ) → (a ≤ b) ⊎ (b < a)
@@ -59,12 +60,12 @@ leb-max f a b = ⊎-elim yes (λ h. ⊎-elim (right h) (no h) (either f b)) (eit
 -- ---- Reaching
 
 -- A frame stands in pairs where those that start at it or before reach it.
-pub in-reach : (f : ℕ) (l : List ℕ) → 1 ≤ f → inPairs f l ≡ leb f (reachOf f l)
-unfolding inPairs reachOf
+pub in-reach : (f : ℕ) (l : List ℕ) → 1 ≤ f → isInPairs f l ≡ leb f (reachOf f l)
+unfolding isInPairs reachOf
 in-reach f [] h = sym (lt-leb f 0 h)
 in-reach f (a ∷ []) h = sym (lt-leb f 0 h)
 in-reach f (a ∷ b ∷ l) h = sym
-    (leb-max f (cond (leb a f) b 0) (reachOf f l) ∙ rw (← in-reach f l h) (ap (λ (t : Bool). t || inPairs f l) (here (leb a f))))
+    (leb-max f (cond (leb a f) b 0) (reachOf f l) ∙ rw (← in-reach f l h) (ap (λ (t : Bool). t || isInPairs f l) (here (leb a f))))
   where
     here : (t : Bool) → leb f (cond t b 0) ≡ (t && leb f b)
     here true = refl

@@ -1,4 +1,4 @@
--- Tables that are filled one cell after the other.
+-- A table that is filled cell by cell holds what each cell was given: a store at one place leaves every other place as it was.
 use mathlib.Core.Path.{_≡_, refl, sym, ap, _∙_}
 use mathlib.Core.Bool.{Bool, cond}
 use mathlib.Core.List.{List, _∷_}

@@ -6,6 +6,7 @@ use mathlib.Core.Option.{Option, none, some}
 use Prim.Native.Nat.{ℕ, zero, suc, _+_, _-_, _/_, _%_, _≤_, _<_, max}
 use lib.Dec.{eqb, leb}
 use lib.ListN.{length, getD}
+use Rattle.basics.specs.Limits.{mostMasks}
 use Rattle.node.specs.Nodes.{Node}
 use Rattle.steps.specs.declared.Applying.{Applying}
 use Rattle.steps.specs.declared.Applying.the-variants.{Item, Nothing}
@@ -110,4 +111,4 @@ toldIn x = record { operation = operationIn (x % 4); shared = answerIn (x / 4) }
 
 -- Where there is a mask item, its answer is beside it.
 pub record Known (ns : List Node) (keys answers : List ℕ) : Type 0 where
-  pub each : (i j : ℕ) → i < 16 → getD keys i 0 ≡ j + 1 → IsTold ns j (toldIn (getD answers i 0))
+  pub each : (i j : ℕ) → i < mostMasks → getD keys i 0 ≡ j + 1 → IsTold ns j (toldIn (getD answers i 0))

@@ -6,15 +6,16 @@ ghost use mathlib.Core.List.{[]};
 ghost use Prim.Native.Nat.{_+_, _%_, _≤_, _<_, max};
 ghost use lib.Dec.{leb};
 ghost use lib.ListN.{length, getD};
-ghost use Rattle.basics.specs.Limits.{mostRows};
+ghost use Rattle.basics.specs.Limits.{mostRows, mostMasks};
 ghost use Rattle.value.specs.declared.Num.the-variants as num;
 ghost use Rattle.value.specs.Number.{usValues};
 ghost use Rattle.node.specs.Nodes.{nodesOf, members};
 ghost use Rattle.node.specs.Contracts.{Table};
 ghost use Rattle.steps.specs.Contracts.{FoundBelow, IsTold};
-ghost use Rattle.steps.specs.Steps.{inPairs, rangeHolds, rangeHas};
+ghost use Rattle.steps.specs.Steps.{isInPairs, rangeHolds, rangeHas};
 ghost use Rattle.ranges.specs.Contracts.{takenBy, itemOf, answerIn, operationIn, toldIn, Cleared, Marked, Covered, CoveredBy};
 ghost use Rattle.ranges.specs.Contracts.{CoveredAll, Tried, AllFound, LeftToFind, Answering, Applied, MarkRooms, Known};
+use basics::MOST_MASKS;
 use basics::tags;
 use steps::Applying;
 use steps::Found;
@@ -23,10 +24,7 @@ use steps::Told;
 use value::Num;
 
 // The largest frame number.
-const ALL: u32 = 65535;
-
-// The most mask items that an accepted object has.
-const MOST_MASKS: usize = 16;
+const LAST_FRAME: u32 = basics::LAST_FRAME as u32;
 
 // ---- Which mask item applies
 
@@ -85,7 +83,7 @@ fn cover(n: usize, item: u32, reach: &[u32], which: &mut [u32])
 // Takes the frames that the pairs of a range hold.
 fn cover_pairs(v: &[u8], n: usize, item: u32, reach: &mut [u32], which: &mut [u32])
     requires { ⌜ (length (now v) % 4 ≡ 0) × MarkRooms n (now reach) (now which) ⌝ }
-    ensures { λ _. ⌜ CoveredBy (λ f. inPairs f (usValues (now (v .entry)))) n item (now (which .entry)) (now (which .exit)) ⌝ }
+    ensures { λ _. ⌜ CoveredBy (λ f. isInPairs f (usValues (now (v .entry)))) n item (now (which .entry)) (now (which .exit)) ⌝ }
 {
     clear(n + 1, reach);
     mark(v, reach);
@@ -97,7 +95,7 @@ fn cover_all(n: usize, item: u32, reach: &mut [u32], which: &mut [u32])
     requires { ⌜ MarkRooms n (now reach) (now which) ⌝ }
     ensures { λ _. ⌜ CoveredAll n item (now (which .entry)) (now (which .exit)) ⌝ }
 {
-    reach[0] = ALL;
+    reach[0] = LAST_FRAME;
     cover(n, item, reach, which);
 }
 
@@ -114,7 +112,7 @@ fn cover_range(
     requires { ⌜ Table (now bytes) (now rows) × ((i < length (nodesOf (now bytes))) × MarkRooms n (now reach) (now which)) ⌝ }
     ensures { λ _. ⌜ Tried (λ f. rangeHas (nodesOf (now (bytes .entry))) f (num.Is i)) n item (now (which .entry)) (now (which .exit)) ⌝ }
 {
-    if steps::has_pairs(bytes, rows, i) {
+    if element::has_pairs(bytes, rows, i) {
         cover_pairs(node::value(bytes, rows, i), n, item, reach, which);
     }
 }
@@ -125,7 +123,7 @@ fn cover_item(bytes: &[u8], rows: &[u32], j: usize, n: usize, reach: &mut [u32],
     ensures { λ _. ⌜ Tried (λ f. rangeHolds (nodesOf (now (bytes .entry))) f j) n (j + 1) (now (which .entry)) (now (which .exit)) ⌝ }
 {
     let item = (j + 1) as u32;
-    match element::find_item(bytes, rows, j, tags::APPLICABLE_FRAME_RANGE) {
+    match node::find_in_item(bytes, rows, j, tags::APPLICABLE_FRAME_RANGE) {
         Num::None => {
             cover_all(n, item, reach, which);
         }
@@ -266,7 +264,8 @@ fn tell_items(
 )
     requires { ⌜ Table (now bytes) (now rows)
         × ((to ≤ length (nodesOf (now bytes)))
-        × ((16 ≤ length (now keys)) × ((16 ≤ length (now answers)) × Known (nodesOf (now bytes)) (now keys) (now answers)))) ⌝ }
+        × ((mostMasks ≤ length (now keys))
+        × ((mostMasks ≤ length (now answers)) × Known (nodesOf (now bytes)) (now keys) (now answers)))) ⌝ }
     ensures { λ _. ⌜ Known (nodesOf (now (bytes .entry))) (now (keys .exit)) (now (answers .exit)) ⌝ }
 {
     let mut at = from;
@@ -284,7 +283,7 @@ fn tell_items(
 
 // The same, for all mask items.
 pub fn tell_all(bytes: &[u8], rows: &[u32], keys: &mut [u32], answers: &mut [u32])
-    requires { ⌜ Table (now bytes) (now rows) × ((16 ≤ length (now keys)) × (16 ≤ length (now answers))) ⌝ }
+    requires { ⌜ Table (now bytes) (now rows) × ((mostMasks ≤ length (now keys)) × (mostMasks ≤ length (now answers))) ⌝ }
     ensures { λ _. ⌜ Known (nodesOf (now (bytes .entry))) (now (keys .exit)) (now (answers .exit)) ⌝ }
 {
     let items = element::mask_items(bytes, rows);
@@ -296,7 +295,8 @@ pub fn tell_all(bytes: &[u8], rows: &[u32], keys: &mut [u32], answers: &mut [u32
 pub fn told_of(bytes: &[u8], rows: &[u32], j: usize, keys: &[u32], answers: &[u32]) -> Told
     requires { ⌜ Table (now bytes) (now rows)
         × ((j < length (nodesOf (now bytes)))
-        × ((16 ≤ length (now keys)) × ((16 ≤ length (now answers)) × Known (nodesOf (now bytes)) (now keys) (now answers)))) ⌝ }
+        × ((mostMasks ≤ length (now keys))
+        × ((mostMasks ≤ length (now answers)) × Known (nodesOf (now bytes)) (now keys) (now answers)))) ⌝ }
     ensures { λ r. ⌜ IsTold (nodesOf (now (bytes .entry))) j r ⌝ }
 {
     let key = (j + 1) as u32;

@@ -60,8 +60,8 @@ fn print_row(rows: &[u32], i: usize)
     io::write_all(1, &text);
     print_number(wide(rows[at + dataset::DEPTH]));
     print_number(wide(rows[at + dataset::OFFSET]));
-    print_number(wide(rows[at + dataset::LENGTH]));
-    print_number(wide(rows[at + dataset::BELOW]));
+    print_number(wide(rows[at + dataset::SIZE]));
+    print_number(wide(rows[at + dataset::DESCENDANTS]));
     print_number(wide(rows[at + dataset::PARENT]));
     io::write_all(1, b"\n");
 }

@@ -4,6 +4,7 @@ use mathlib.Core.List.{List, [], _∷_}
 use mathlib.Core.Bool.{Bool, true, false, cond, _&&_, _||_}
 use lib.ListN.{length}
 use lib.Dec.{eqb, leb}
+use Rattle.basics.specs.Limits.{mostMasks, mostMaskFrames}
 use Rattle.basics.specs.Vr.{SQ, US, SS, FL}
 use Rattle.value.specs.Text.{ascii}
 use Rattle.value.specs.Number.{usOf, usValues, ssOf, isNumber}
@@ -11,7 +12,7 @@ use Rattle.shift.specs.Shift.{isShift}
 use Rattle.node.specs.Nodes.{Node, nodeAt, root, inside}
 use Rattle.node.specs.Find.{holds, ifPresent, andThen, find, findVr, ofVr, filled}
 use Rattle.basics.specs.Tags
-use Rattle.element.specs.Elements.{valueAt, every, some}
+use Rattle.element.specs.Elements.{valueAt, hasPairs, every, some}
 use Rattle.element.specs.Frames.{framesOf, frameItems, sharedItem, groupOf, maskItems, operationIs}
 use Rattle.rules.specs.Frame.{hasId, uniqueIds}
 
@@ -23,7 +24,7 @@ isOperation ns j = operationIs ns (ascii "NONE") j || (operationIs ns (ascii "AV
 unfoldable pub isMask : List Node → ℕ → Bool
 isMask ns m =
     eqb (nodeAt ns m .vr) SQ
-    && ((leb 1 (length (inside ns m)) && leb (length (inside ns m)) 16) && every (isOperation ns) (inside ns m))
+    && ((leb 1 (length (inside ns m)) && leb (length (inside ns m)) mostMasks) && every (isOperation ns) (inside ns m))
 
 unfoldable pub rule31 : List Node → Bool
 rule31 ns = ifPresent (find ns Tags.MaskSubtractionSequence (root ns)) (isMask ns)
@@ -35,9 +36,7 @@ pairsFit n (a ∷ []) = false
 pairsFit n (a ∷ b ∷ l) = (leb 1 a && (leb a b && leb b n)) && pairsFit n l
 
 unfoldable pub isRange : List Node → ℕ → ℕ → Bool
-isRange ns n r =
-    eqb (nodeAt ns r .vr) US
-    && ((leb 4 (length (valueAt ns r)) && eqb (length (valueAt ns r) % 4) 0) && pairsFit n (usValues (valueAt ns r)))
+isRange ns n r = hasPairs ns r && pairsFit n (usValues (valueAt ns r))
 
 unfoldable pub rangeFits : List Node → ℕ → ℕ → Bool
 rangeFits ns n j = ifPresent (find ns Tags.ApplicableFrameRange (inside ns j)) (isRange ns n)
@@ -53,7 +52,7 @@ allFrames n (x ∷ xs) = (leb 1 x && leb x n) && allFrames n xs
 
 unfoldable pub areMaskFrames : ℕ → List ℕ → Bool
 areMaskFrames n v =
-    eqb (length v % 2) 0 && ((leb 1 (length (usValues v)) && leb (length (usValues v)) 64) && allFrames n (usValues v))
+    eqb (length v % 2) 0 && ((leb 1 (length (usValues v)) && leb (length (usValues v)) mostMaskFrames) && allFrames n (usValues v))
 
 unfoldable pub isOne : List Node → ℕ → Bool
 isOne ns k = holds (andThen (ofVr ns US k) (λ i. usOf (valueAt ns i))) (λ x. eqb x 1)

@@ -7,6 +7,7 @@ use lib.ListN.{length}
 use lib.Dec.{eqb, leb}
 use Rattle.value.specs.Text.{ascii, valuesOf, isSingle}
 use Rattle.value.specs.Words.{wordAt, isWord}
+use Rattle.basics.specs.Limits.{lastFrame}
 use Rattle.basics.specs.Vr.{SQ, CS, DS, DT, FD}
 use Rattle.node.specs.Nodes.{Node, root, inside}
 use Rattle.node.specs.Find.{holds, absent, find, findVr, has}
@@ -61,7 +62,7 @@ rule4 ns = planesAre ns (ascii "SINGLE PLANE") || (planesAre ns (ascii "BIPLANE"
 unfoldable pub rule5 : List Node → Bool
 rule5 ns = cond (planesAre ns (ascii "UNDEFINED")) (imageTypeIs ns (ascii "DERIVED")) true
 
--- Rule 6. Plane Identification (0018,9457) CS: absent if UNDEFINED, else had.
+-- Rule 6. Plane Identification (0018,9457) CS: absent if UNDEFINED, otherwise present and not empty.
 unfoldable pub rule6 : List Node → Bool
 rule6 ns =
     cond (planesAre ns (ascii "UNDEFINED"))
@@ -114,7 +115,7 @@ rule14 ns = holds (usIn ns Tags.PixelRepresentation (root ns)) (λ n. eqb n 0)
 
 -- Rule 15. Number of Frames (0028,0008) IS, 1 to 65,535 (local rule).
 unfoldable pub rule15 : List Node → Bool
-rule15 ns = holds (framesOf ns) (λ n. leb 1 n && leb n 65535)
+rule15 ns = holds (framesOf ns) (λ n. leb 1 n && leb n lastFrame)
 
 -- Rule 16. Content Qualification (0018,9004) CS: PRODUCT, RESEARCH, SERVICE.
 unfoldable pub rule16 : List Node → Bool
@@ -133,7 +134,7 @@ lossyIs ns word = rootIs ns Tags.LossyImageCompression word
 unfoldable pub rule18 : List Node → Bool
 rule18 ns = lossyIs ns (ascii "00") || lossyIs ns (ascii "01")
 
--- Rule 19. Ratio (0028,2112) DS and Method (0028,2114) CS: both had at 01, both absent at 00.
+-- Rule 19. Ratio (0028,2112) DS and Method (0028,2114) CS: both present and not empty at 01, both absent at 00.
 unfoldable pub rule19 : List Node → Bool
 rule19 ns =
     cond (lossyIs ns (ascii "01"))

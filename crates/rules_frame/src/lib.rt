@@ -12,8 +12,8 @@ ghost use Rattle.node.specs.Contracts.{Table};
 ghost use Rattle.basics.specs.Tags.{FrameContentSequence};
 ghost use Rattle.element.specs.Elements.{every};
 ghost use Rattle.rules.specs.Frame.{repeatsShared, item27, item28, isWindow, hasWindow, isVoi, isShiftItem, uniqueIds, isShiftGroup};
-ghost use Rattle.rules_frame.specs.Contracts.{isRepeated, groupTag, groupFits, groupIn, sharedOk, itemBy, sharedPart, itemGrades};
-ghost use Rattle.rules_frame.specs.Contracts.{itemRule};
+ghost use Rattle.rules_frame.specs.Contracts.{isRepeated, groupTag, groupFits, groupHolds, sharedOk, itemHolds, sharedPart};
+ghost use Rattle.rules_frame.specs.Contracts.{itemGrades, itemRule};
 use basics::tags;
 use basics::vrs;
 use value::Function;
@@ -43,8 +43,8 @@ fn is_repeated(bytes: &[u8], rows: &[u32], j: usize, k: usize, to: usize) -> boo
     }
 }
 
-// Tags ascend in an item, so one walk goes along both items; neither j nor k goes back, and the end of the shared one ends it. Step by
-// step:
+// Whether a sequence of the frame's item is in the shared item too. Tags ascend in an item, so one walk goes along both items, step by
+// step; neither j nor k goes back, and the end of the shared one ends it.
 fn repeats_narrow(bytes: &[u8], rows: &[u32], shared: usize, item: usize) -> bool
     requires { ⌜ Table (now bytes) (now rows) × ((shared < length (nodesOf (now bytes))) × (item < length (nodesOf (now bytes)))) ⌝ }
     ensures { λ r. ⌜ r ≡ repeatsShared (nodesOf (now (bytes .entry))) shared item ⌝ }
@@ -124,7 +124,7 @@ fn is_content_absent(bytes: &[u8], rows: &[u32], shared: usize) -> bool
     requires { ⌜ Table (now bytes) (now rows) × (shared < length (nodesOf (now bytes))) ⌝ }
     ensures { λ r. ⌜ r ≡ absent (find (nodesOf (now (bytes .entry))) FrameContentSequence (inside (nodesOf (now (bytes .entry))) shared)) ⌝ }
 {
-    match element::find_item(bytes, rows, shared, tags::FRAME_CONTENT_SEQUENCE) {
+    match node::find_in_item(bytes, rows, shared, tags::FRAME_CONTENT_SEQUENCE) {
         Num::None => true,
         Num::Is(_) => false,
     }
@@ -138,7 +138,7 @@ fn item_28(bytes: &[u8], rows: &[u32], shared: usize, ok: bool, item: usize) -> 
     ensures { λ r. ⌜ r ≡ item28 (nodesOf (now (bytes .entry))) shared item ⌝ }
 {
     if ok {
-        match element::find_item(bytes, rows, item, tags::FRAME_CONTENT_SEQUENCE) {
+        match node::find_in_item(bytes, rows, item, tags::FRAME_CONTENT_SEQUENCE) {
             Num::None => false,
             Num::Is(g) => element::is_one_item(bytes, rows, g),
         }
@@ -299,11 +299,11 @@ fn group_fits(bytes: &[u8], rows: &[u32], rule: usize, group: usize) -> bool
 }
 
 // The functional group of rule 29, 30 or 37 in an item; `otherwise` if the item has none.
-fn group_in(bytes: &[u8], rows: &[u32], rule: usize, item: usize, otherwise: bool) -> bool
+fn group_holds(bytes: &[u8], rows: &[u32], rule: usize, item: usize, otherwise: bool) -> bool
     requires { ⌜ Table (now bytes) (now rows) × (item < length (nodesOf (now bytes))) ⌝ }
-    ensures { λ r. ⌜ r ≡ groupIn (nodesOf (now (bytes .entry))) rule item otherwise ⌝ }
+    ensures { λ r. ⌜ r ≡ groupHolds (nodesOf (now (bytes .entry))) rule item otherwise ⌝ }
 {
-    match element::find_item(bytes, rows, item, group_tag(rule)) {
+    match node::find_in_item(bytes, rows, item, group_tag(rule)) {
         Num::None => otherwise,
         Num::Is(g) => group_fits(bytes, rows, rule, g),
     }
@@ -320,17 +320,17 @@ fn shared_ok(bytes: &[u8], rows: &[u32], rule: usize, shared: usize) -> bool
         if rule == 28 {
             is_content_absent(bytes, rows, shared)
         } else {
-            group_in(bytes, rows, rule, shared, true)
+            group_holds(bytes, rows, rule, shared, true)
         }
     }
 }
 
 // Rules 27 to 30 and 37 at a frame.
-fn item_by(bytes: &[u8], rows: &[u32], rule: usize, shared: usize, ok: bool, item: usize) -> bool
+fn item_holds(bytes: &[u8], rows: &[u32], rule: usize, shared: usize, ok: bool, item: usize) -> bool
     requires { ⌜ Table (now bytes) (now rows)
         × ((shared < length (nodesOf (now bytes)))
         × ((item < length (nodesOf (now bytes))) × (ok ≡ sharedOk (nodesOf (now bytes)) rule shared))) ⌝ }
-    ensures { λ r. ⌜ r ≡ itemBy (nodesOf (now (bytes .entry))) rule shared item ⌝ }
+    ensures { λ r. ⌜ r ≡ itemHolds (nodesOf (now (bytes .entry))) rule shared item ⌝ }
 {
     if rule == 27 {
         item_27(bytes, rows, shared, item)
@@ -338,7 +338,7 @@ fn item_by(bytes: &[u8], rows: &[u32], rule: usize, shared: usize, ok: bool, ite
         if rule == 28 {
             item_28(bytes, rows, shared, ok, item)
         } else {
-            group_in(bytes, rows, rule, item, ok)
+            group_holds(bytes, rows, rule, item, ok)
         }
     }
 }
@@ -352,7 +352,7 @@ fn item_39(bytes: &[u8], rows: &[u32], shared: usize, part: SharedPart, item: us
 {
     let relation = intensity::relation_in(bytes, rows, item, part.relation);
     let table = intensity::table_in(bytes, rows, item, part.table);
-    intensity::do_agree(relation, table)
+    intensity::grades_agree(relation, table)
 }
 
 // ---- All of them
@@ -394,6 +394,6 @@ pub fn item_rule(
     if rule == 39 {
         item_39(bytes, rows, shared, part, item)
     } else {
-        item_by(bytes, rows, rule, shared, part.ok, item)
+        item_holds(bytes, rows, rule, shared, part.ok, item)
     }
 }

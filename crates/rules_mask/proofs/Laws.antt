@@ -2,7 +2,7 @@
 use mathlib.Core.Path.{_≡_, refl, sym, ap, _∙_}
 use Prim.Native.Nat.{ℕ, _+_, _*_, _/_, _≤_, _<_}
 use native.Mathlib.Omega.{arith}
-use mathlib.Core.List.{List, []}
+use mathlib.Core.List.{List}
 use mathlib.Core.Bool.{Bool, true, false, _&&_}
 use lib.ListN.{length, getD, drop}
 use lib.Dec.{eqb, leb}
@@ -14,11 +14,12 @@ use Rattle.value.specs.Number.{usValues}
 use Rattle.value.proofs.Laws.{value-next, values-end, pair-at}
 pub use Rattle.basics.proofs.Tests.{both, not-first, one, other-one, then, otherwise}
 use Rattle.node.specs.Nodes.{Node, nextNode, members, inside}
-use Rattle.node.specs.Find.{holds, holdsOr, andThen, orElse, find, ofVr, filled}
+use Rattle.node.specs.Find.{holds, andThen, orElse, find, ofVr, filled}
+use Rattle.node.specs.Contracts.{holdsOr}
 use Rattle.element.specs.Elements.{every}
 use Rattle.basics.specs.Tags.{FramePixelShiftSequence}
 use Rattle.rules.specs.Mask.{pairsFit, allFrames, hasShiftGroup}
-use Rattle.rules_mask.specs.Contracts.{shiftIn}
+use Rattle.rules_mask.specs.Contracts.{hasShifts}
 
 -- ---- Tests one after the other
 
@@ -92,10 +93,11 @@ group-shift (Is k) b p q = refl
 group-shift None (Is k) p q = refl
 group-shift None None p q = refl
 
-pub shift-apart : (ns : List Node) (s i : ℕ) → hasShiftGroup ns s i ≡ shiftIn ns i (shiftIn ns s false)
-unfolding hasShiftGroup shiftIn
+pub shift-apart : (ns : List Node) (s i : ℕ) → hasShiftGroup ns s i ≡ hasShifts ns i (hasShifts ns s false)
+unfolding hasShiftGroup hasShifts
 shift-apart ns s i = group-shift (find ns FramePixelShiftSequence (inside ns i)) (find ns FramePixelShiftSequence (inside ns s))
     (ofVr ns SQ) (filled ns)
 
-pub shift-found : (ns : List Node) (s i : ℕ) (o r t : Bool) → o ≡ shiftIn ns s false → r ≡ shiftIn ns i o → r ≡ t → hasShiftGroup ns s i ≡ t
-shift-found ns s i o r t a b e = shift-apart ns s i ∙ (ap (shiftIn ns i) (sym a) ∙ (sym b ∙ e))
+pub shift-found : (ns : List Node) (s i : ℕ) (o r t : Bool) → o ≡ hasShifts ns s false → r ≡ hasShifts ns i o → r ≡ t
+    → hasShiftGroup ns s i ≡ t
+shift-found ns s i o r t a b e = shift-apart ns s i ∙ (ap (hasShifts ns i) (sym a) ∙ (sym b ∙ e))

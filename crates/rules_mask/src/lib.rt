@@ -14,11 +14,10 @@ ghost use Rattle.rules.specs.Mask.{isOperation, isMask, rule31, pairsFit, isRan
 ghost use Rattle.rules.specs.Mask.{averageFits, averagesFit, rule33, isOffset, offsetFits, rule34, isShiftAt, shiftFits, rule35, anyShift};
 ghost use Rattle.rules.specs.Mask.{masksHaveIds, rule36};
 ghost use Rattle.rules.specs.All.{ruleAt};
-ghost use Rattle.rules_mask.specs.Contracts.{itemFits, shiftIn};
+ghost use Rattle.rules_mask.specs.Contracts.{itemFits, hasShifts};
 use basics::tags;
 use basics::vrs;
 use value::Num;
-use value::Signed;
 
 // What a rule asks of each mask item. Two of the rules need the number of frames.
 enum Question {
@@ -29,10 +28,6 @@ enum Question {
     Shift,
     Id,
 }
-
-const MOST_MASKS: usize = 16;
-
-const MOST_MASK_FRAMES: usize = 64;
 
 // ---- One item and all items
 
@@ -91,7 +86,7 @@ fn is_mask(bytes: &[u8], rows: &[u32], i: usize) -> bool
     if node::vr(bytes, rows, i) == vrs::SQ {
         let n = element::count_items(bytes, rows, i);
         if 1 <= n {
-            if n <= MOST_MASKS {
+            if n <= basics::MOST_MASKS {
                 let next = node::next(bytes, rows, i);
                 all_fit(bytes, rows, Question::Operation, i + 1, next)
             } else {
@@ -110,7 +105,7 @@ fn rule_31(bytes: &[u8], rows: &[u32]) -> bool
     requires { ⌜ Table (now bytes) (now rows) ⌝ }
     ensures { λ r. ⌜ r ≡ rule31 (nodesOf (now (bytes .entry))) ⌝ }
 {
-    match element::find_root(bytes, rows, tags::MASK_SUBTRACTION_SEQUENCE) {
+    match node::find_root(bytes, rows, tags::MASK_SUBTRACTION_SEQUENCE) {
         Num::None => true,
         Num::Is(i) => is_mask(bytes, rows, i),
     }
@@ -151,17 +146,8 @@ fn is_range(bytes: &[u8], rows: &[u32], i: usize, n: usize) -> bool
     requires { ⌜ Table (now bytes) (now rows) × (i < length (nodesOf (now bytes))) ⌝ }
     ensures { λ r. ⌜ r ≡ isRange (nodesOf (now (bytes .entry))) n i ⌝ }
 {
-    if node::vr(bytes, rows, i) == vrs::US {
-        let v = node::value(bytes, rows, i);
-        if 4 <= v.len() {
-            if v.len() % 4 == 0 {
-                pairs_fit(v, n)
-            } else {
-                false
-            }
-        } else {
-            false
-        }
+    if element::has_pairs(bytes, rows, i) {
+        pairs_fit(node::value(bytes, rows, i), n)
     } else {
         false
     }
@@ -172,7 +158,7 @@ fn range_fits(bytes: &[u8], rows: &[u32], item: usize, n: usize) -> bool
     requires { ⌜ Table (now bytes) (now rows) × (item < length (nodesOf (now bytes))) ⌝ }
     ensures { λ r. ⌜ r ≡ rangeFits (nodesOf (now (bytes .entry))) n item ⌝ }
 {
-    match element::find_item(bytes, rows, item, tags::APPLICABLE_FRAME_RANGE) {
+    match node::find_in_item(bytes, rows, item, tags::APPLICABLE_FRAME_RANGE) {
         Num::None => true,
         Num::Is(i) => is_range(bytes, rows, i, n),
     }
@@ -222,7 +208,7 @@ fn are_mask_frames(v: &[u8], n: usize) -> bool
     if v.len() % 2 == 0 {
         let count = v.len() / 2;
         if 1 <= count {
-            if count <= MOST_MASK_FRAMES {
+            if count <= basics::MOST_MASK_FRAMES {
                 all_frames(v, n)
             } else {
                 false
@@ -255,7 +241,7 @@ fn contrast_fits(bytes: &[u8], rows: &[u32], item: usize) -> bool
     requires { ⌜ Table (now bytes) (now rows) × (item < length (nodesOf (now bytes))) ⌝ }
     ensures { λ r. ⌜ r ≡ ifPresent (find (nodesOf (now (bytes .entry))) ContrastFrameAveraging (inside (nodesOf (now (bytes .entry))) item)) (isOne (nodesOf (now (bytes .entry)))) ⌝ }
 {
-    match element::find_item(bytes, rows, item, tags::CONTRAST_FRAME_AVERAGING) {
+    match node::find_in_item(bytes, rows, item, tags::CONTRAST_FRAME_AVERAGING) {
         Num::None => true,
         Num::Is(i) => is_one(bytes, rows, i),
     }
@@ -310,11 +296,7 @@ fn is_offset(bytes: &[u8], rows: &[u32], i: usize) -> bool
     ensures { λ r. ⌜ r ≡ isOffset (nodesOf (now (bytes .entry))) i ⌝ }
 {
     if node::vr(bytes, rows, i) == vrs::SS {
-        match value::ss_of(node::value(bytes, rows, i)) {
-            Signed::Plus(_) => true,
-            Signed::Minus(_) => true,
-            Signed::None => false,
-        }
+        value::is_number(value::ss_of(node::value(bytes, rows, i)))
     } else {
         false
     }
@@ -326,7 +308,7 @@ fn offset_fits(bytes: &[u8], rows: &[u32], item: usize) -> bool
     ensures { λ r. ⌜ r ≡ offsetFits (nodesOf (now (bytes .entry))) item ⌝ }
 {
     if element::is_cs_item(bytes, rows, item, tags::MASK_OPERATION, b"TID") {
-        match element::find_item(bytes, rows, item, tags::TID_OFFSET) {
+        match node::find_in_item(bytes, rows, item, tags::TID_OFFSET) {
             Num::None => true,
             Num::Is(i) => is_offset(bytes, rows, i),
         }
@@ -362,7 +344,7 @@ fn shift_fits(bytes: &[u8], rows: &[u32], item: usize) -> bool
     requires { ⌜ Table (now bytes) (now rows) × (item < length (nodesOf (now bytes))) ⌝ }
     ensures { λ r. ⌜ r ≡ shiftFits (nodesOf (now (bytes .entry))) item ⌝ }
 {
-    match element::find_item(bytes, rows, item, tags::MASK_SUB_PIXEL_SHIFT) {
+    match node::find_in_item(bytes, rows, item, tags::MASK_SUB_PIXEL_SHIFT) {
         Num::None => true,
         Num::Is(i) => is_shift_at(bytes, rows, i),
     }
@@ -380,11 +362,11 @@ fn rule_35(bytes: &[u8], rows: &[u32]) -> bool
 // ---- Rule 36
 
 // Whether an item has a Frame Pixel Shift group with items; `otherwise` if it has no such group at all.
-fn shift_in(bytes: &[u8], rows: &[u32], item: usize, otherwise: bool) -> bool
+fn has_shifts(bytes: &[u8], rows: &[u32], item: usize, otherwise: bool) -> bool
     requires { ⌜ Table (now bytes) (now rows) × (item < length (nodesOf (now bytes))) ⌝ }
-    ensures { λ r. ⌜ r ≡ shiftIn (nodesOf (now (bytes .entry))) item otherwise ⌝ }
+    ensures { λ r. ⌜ r ≡ hasShifts (nodesOf (now (bytes .entry))) item otherwise ⌝ }
 {
-    match element::find_item(bytes, rows, item, tags::FRAME_PIXEL_SHIFT_SEQUENCE) {
+    match node::find_in_item(bytes, rows, item, tags::FRAME_PIXEL_SHIFT_SEQUENCE) {
         Num::None => otherwise,
         Num::Is(g) => {
             if node::vr(bytes, rows, g) == vrs::SQ {
@@ -401,12 +383,12 @@ fn any_shift(bytes: &[u8], rows: &[u32], shared: usize) -> bool
     requires { ⌜ Table (now bytes) (now rows) × (shared < length (nodesOf (now bytes))) ⌝ }
     ensures { λ r. ⌜ r ≡ anyShift (nodesOf (now (bytes .entry))) shared ⌝ }
 {
-    let shared_has = shift_in(bytes, rows, shared, false);
+    let shared_has = has_shifts(bytes, rows, shared, false);
     let items = element::frame_items(bytes, rows);
     let end = items.end;
     let mut at = items.at;
     while at < end {
-        if shift_in(bytes, rows, at, shared_has) {
+        if has_shifts(bytes, rows, at, shared_has) {
             return true;
         }
         at = node::next(bytes, rows, at);

@@ -2,6 +2,7 @@
 ghost use mathlib.Core.Path.{_≡_};
 ghost use Prim.Native.Nat.{_*_, _≤_, _<_};
 ghost use lib.ListN.{length};
+ghost use Rattle.value.specs.Number.{integerLimit};
 ghost use lib.Dec.{eqb, leb};
 ghost use Rattle.node.specs.Nodes.{nodesOf, root};
 ghost use Rattle.node.specs.Find.{holds};
@@ -328,7 +329,13 @@ fn rule_15(bytes: &[u8], rows: &[u32]) -> bool
 {
     match element::frame_count(bytes, rows) {
         Num::None => false,
-        Num::Is(n) => { if 1 <= n { n <= 65535 } else { false } }
+        Num::Is(n) => {
+            if 1 <= n {
+                n <= basics::LAST_FRAME
+            } else {
+                false
+            }
+        }
     }
 }
 
@@ -396,7 +403,7 @@ fn rule_20(bytes: &[u8], rows: &[u32]) -> bool
     ensures { λ r. ⌜ r ≡ rule20 (nodesOf (now (bytes .entry))) ⌝ }
 {
     if planes_are(bytes, rows, b"BIPLANE") {
-        match element::find_root(bytes, rows, tags::REFERENCED_OTHER_PLANE_SEQUENCE) {
+        match node::find_root(bytes, rows, tags::REFERENCED_OTHER_PLANE_SEQUENCE) {
             Num::None => false,
             Num::Is(i) => element::is_one_item(bytes, rows, i),
         }
@@ -564,7 +571,7 @@ fn is_pixel_data(
 ) -> bool
     requires { ⌜ Table (now bytes) (now rows)
         × ((i < length (nodesOf (now bytes)))
-        × ((frames < 100000000000) × ((height < 65536) × ((width < 65536) × (allocated < 65536))))) ⌝ }
+        × ((frames < integerLimit) × ((height < 65536) × ((width < 65536) × (allocated < 65536))))) ⌝ }
     ensures { λ r. ⌜ r ≡ isPixelData (nodesOf (now (bytes .entry))) frames height width allocated i ⌝ }
 {
     if is_pixel_vr(node::vr(bytes, rows, i), allocated) {
@@ -596,7 +603,7 @@ pub fn rule_38(bytes: &[u8], rows: &[u32]) -> bool
     let Num::Is(allocated) = element::us_root(bytes, rows, tags::BITS_ALLOCATED) else {
         return false;
     };
-    let Num::Is(i) = element::find_root(bytes, rows, tags::PIXEL_DATA) else {
+    let Num::Is(i) = node::find_root(bytes, rows, tags::PIXEL_DATA) else {
         return false;
     };
     is_pixel_data(bytes, rows, frames, height, width, allocated, i)

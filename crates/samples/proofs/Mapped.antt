@@ -3,9 +3,10 @@
 use mathlib.Core.Path.{_≡_, refl}
 use mathlib.Core.List.{List, [], _∷_, _++_}
 use Prim.Native.Nat.{ℕ}
+use Rattle.basics.specs.Tags
 use Rattle.value.specs.Text.{ascii}
 use Rattle.rules.specs.Intensity.{isLinear, linearAmong, isLut, hasLut, areLuts, isLutGroup, hasLinear, isLog}
-use Rattle.linear.specs.Mapping.{linearFor, placeAmong, entryPlace, entryAt, entryOf, mappingBy, mappingOf, isMapped}
+use Rattle.linear.specs.Mapping.{linearFor, placeAmong, entryPlace, entryAt, entryOf, mappingBy, mappingOf, hasLinearItem}
 use Rattle.linear.specs.Answer.{entriesOf, linearOf, valuesLeft as mappedValues, acceptedAnswer as acceptedLinear}
 use Rattle.samples.proofs.Worked.{drawing}
 use Rattle.samples.specs.Objects.{two, short, long, sequence, item, oneFrame}
@@ -14,14 +15,14 @@ use Rattle.samples.specs.Samples.{manyRows}
 abbrev object : List ℕ
 object =
     oneFrame "MONOCHROME2 " "IDENTITY"
-    (sequence 0x0028 0x9422
+    (sequence Tags.PixelIntensityRelationshipLUTSequence
     (item
-    (short 0x0028 0x3002 "US" (two 3 ++ (two 10 ++ two 16))
-    ++ (long 0x0028 0x3006 "OW" (two 100 ++ (two 200 ++ two 300))
-    ++ short 0x0028 0x9474 "CS" (ascii "TO_LINEAR ")))))
+    (short Tags.LUTDescriptor "US" (two 3 ++ (two 10 ++ two 16))
+    ++ (long Tags.LUTData "OW" (two 100 ++ (two 200 ++ two 300))
+    ++ short Tags.LUTFunction "CS" (ascii "TO_LINEAR ")))))
     (9 ∷ 10 ∷ 11 ∷ 12 ∷ 13 ∷ [])
 
 pub mapped : mappedValues object 1 manyRows (9 ∷ 9 ∷ 9 ∷ 9 ∷ 9 ∷ 9 ∷ []) ≡ 100 ∷ 100 ∷ 200 ∷ 300 ∷ 300 ∷ 9 ∷ []
 unfolding drawing isLinear linearAmong isLut hasLut areLuts isLutGroup hasLinear isLog linearFor placeAmong entryPlace entryAt entryOf
-    mappingBy mappingOf isMapped entriesOf linearOf mappedValues acceptedLinear
+    mappingBy mappingOf hasLinearItem entriesOf linearOf mappedValues acceptedLinear
 mapped = refl

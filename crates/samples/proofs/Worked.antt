@@ -7,7 +7,8 @@ use Rattle.dataset.specs.Reading.{level, valueRun, readingOf}
 use Rattle.dataset.specs.Tree.{rowsOf}
 use Rattle.value.specs.Text.{valuesOf, trimStart, trimEnd}
 use Rattle.value.specs.Words.{wordAt, isWord, isUid, functionOf}
-use Rattle.value.specs.Number.{usOf, usValues, ssOf, digitsOf, signedBy, wholeOf, isOf, exactOf, exponentOf, endOf, sizeOf, decimalOf, all}
+use Rattle.value.specs.Number.{usOf, usValues, ssOf, digitsOf, signedBy, wholeOf, integerOf, exactOf, exponentOf, endOf, sizeOf}
+use Rattle.value.specs.Number.{decimalOf, all}
 use Rattle.value.specs.Number.{allDecimals, allWidths}
 use Rattle.node.specs.Nodes.{nodesOf, members, membersBy}
 use Rattle.node.specs.Find.{find, ofVr, filled, has}
@@ -51,7 +52,7 @@ unfolding
     reading
     sameBytes valuesOf trimStart trimEnd
     wordAt isWord isUid functionOf
-    usOf usValues ssOf digitsOf signedBy wholeOf isOf exactOf exponentOf endOf sizeOf decimalOf all allDecimals allWidths
+    usOf usValues ssOf digitsOf signedBy wholeOf integerOf exactOf exponentOf endOf sizeOf decimalOf all allDecimals allWidths
     nodesOf members membersBy
     find ofVr filled has
     oneItem theItem itemsIn every some functionIn

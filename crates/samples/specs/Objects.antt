@@ -6,6 +6,8 @@ use mathlib.Core.Bool.{cond}
 use mathlib.Core.List.{List, [], _∷_, _++_}
 use lib.ListN.{length}
 use lib.Dec.{eqb}
+use Rattle.basics.specs.Tags
+use Rattle.basics.specs.Tags.{itemTag}
 use Rattle.value.specs.Text.{ascii}
 
 -- ---- Elements
@@ -17,20 +19,24 @@ two n = n % 256 ∷ n / 256 % 256 ∷ []
 abbrev pub four : ℕ → List ℕ
 four n = two n ++ two (n / 65536)
 
+-- A tag: its group, then its element number.
+abbrev pub tagged : ℕ → List ℕ → List ℕ
+tagged tag more = two (tag / 65536) ++ (two tag ++ more)
+
 -- An element with a 16-bit length.
-abbrev pub short : ℕ → ℕ → String → List ℕ → List ℕ
-short group number vr value = two group ++ (two number ++ (ascii vr ++ (two (length value) ++ value)))
+abbrev pub short : ℕ → String → List ℕ → List ℕ
+short tag vr value = tagged tag (ascii vr ++ (two (length value) ++ value))
 
 -- An element with a 32-bit length.
-abbrev pub long : ℕ → ℕ → String → List ℕ → List ℕ
-long group number vr value = two group ++ (two number ++ (ascii vr ++ (two 0 ++ (four (length value) ++ value))))
+abbrev pub long : ℕ → String → List ℕ → List ℕ
+long tag vr value = tagged tag (ascii vr ++ (two 0 ++ (four (length value) ++ value)))
 
 -- A sequence of items, and an item of elements, of defined lengths.
-abbrev pub sequence : ℕ → ℕ → List ℕ → List ℕ
-sequence group number items = long group number "SQ" items
+abbrev pub sequence : ℕ → List ℕ → List ℕ
+sequence tag items = long tag "SQ" items
 
 abbrev pub item : List ℕ → List ℕ
-item elements = two 0xFFFE ++ (two 0xE000 ++ (four (length elements) ++ elements))
+item elements = tagged itemTag (four (length elements) ++ elements)
 
 -- ---- Masks
 
@@ -39,18 +45,18 @@ abbrev pub unmasked : List ℕ
 unmasked = []
 
 abbrev pub maskedBy : String → List ℕ → List ℕ
-maskedBy operation elements = sequence 0x0028 0x6100 (item (short 0x0028 0x6101 "CS" (ascii operation) ++ elements))
+maskedBy operation elements = sequence Tags.MaskSubtractionSequence (item (short Tags.MaskOperation "CS" (ascii operation) ++ elements))
 
 -- TID, its offset absent, or two bytes in two's complement.
 abbrev pub tidAbsent : List ℕ
 tidAbsent = maskedBy "TID " []
 
 abbrev pub tid : List ℕ → List ℕ
-tid offset = maskedBy "TID " (short 0x0028 0x6120 "SS" offset)
+tid offset = maskedBy "TID " (short Tags.TIDOffset "SS" offset)
 
 -- AVG_SUB, with the Mask Frame Numbers 1 and 2.
 abbrev pub averageOfTwo : List ℕ
-averageOfTwo = maskedBy "AVG_SUB " (short 0x0028 0x6110 "US" (two 1 ++ two 2))
+averageOfTwo = maskedBy "AVG_SUB " (short Tags.MaskFrameNumbers "US" (two 1 ++ two 2))
 
 -- ---- Windows
 
@@ -60,13 +66,13 @@ noWindow = []
 
 abbrev pub voi : String → String → List ℕ
 voi center width =
-    sequence 0x0028 0x9132 (item (short 0x0028 0x1050 "DS" (ascii center) ++ short 0x0028 0x1051 "DS" (ascii width)))
+    sequence Tags.FrameVOILUTSequence (item (short Tags.WindowCenter "DS" (ascii center) ++ short Tags.WindowWidth "DS" (ascii width)))
 
 abbrev pub exactVoi : String → String → List ℕ
 exactVoi center width =
-    sequence 0x0028 0x9132
-    (item (short 0x0028 0x1050 "DS" (ascii center)
-    ++ (short 0x0028 0x1051 "DS" (ascii width) ++ short 0x0028 0x1056 "CS" (ascii "LINEAR_EXACT"))))
+    sequence Tags.FrameVOILUTSequence
+    (item (short Tags.WindowCenter "DS" (ascii center)
+    ++ (short Tags.WindowWidth "DS" (ascii width) ++ short Tags.VOILUTFunction "CS" (ascii "LINEAR_EXACT"))))
 
 -- ---- Data sets
 
@@ -76,33 +82,33 @@ evenPadded value = cond (eqb (length value % 2) 1) (value ++ (0 ∷ [])) value
 
 -- An item with an empty Frame Content.
 abbrev pub itemOfFrame : List ℕ
-itemOfFrame = item (sequence 0x0020 0x9111 (item []))
+itemOfFrame = item (sequence Tags.FrameContentSequence (item []))
 
 -- Frames of one row, of 8 bits.
 abbrev pub frames : String → String → ℕ → String → List ℕ → List ℕ → List ℕ → List ℕ → List ℕ
 frames photometric shape columns number mask window items pixels =
-    short 0x0008 0x0008 "CS" (evenPadded (ascii "DERIVED\\PRIMARY\\X\\NONE"))
-    ++ (short 0x0008 0x0016 "UI" (evenPadded (ascii "1.2.840.10008.5.1.4.1.1.12.1.1"))
-    ++ (short 0x0008 0x002A "DT" (ascii "20240101")
-    ++ (short 0x0008 0x0060 "CS" (ascii "XA")
-    ++ (short 0x0018 0x9004 "CS" (ascii "PRODUCT ")
-    ++ (short 0x0018 0x9410 "CS" (ascii "UNDEFINED ")
-    ++ (short 0x0028 0x0002 "US" (two 1)
-    ++ (short 0x0028 0x0004 "CS" (ascii photometric)
-    ++ (short 0x0028 0x0008 "IS" (ascii number)
-    ++ (short 0x0028 0x0010 "US" (two 1)
-    ++ (short 0x0028 0x0011 "US" (two columns)
-    ++ (short 0x0028 0x0100 "US" (two 8)
-    ++ (short 0x0028 0x0101 "US" (two 8)
-    ++ (short 0x0028 0x0102 "US" (two 7)
-    ++ (short 0x0028 0x0103 "US" (two 0)
-    ++ (short 0x0028 0x0301 "CS" (ascii "NO")
-    ++ (short 0x0028 0x2110 "CS" (ascii "00")
+    short Tags.ImageType "CS" (evenPadded (ascii "DERIVED\\PRIMARY\\X\\NONE"))
+    ++ (short Tags.SOPClassUID "UI" (evenPadded (ascii "1.2.840.10008.5.1.4.1.1.12.1.1"))
+    ++ (short Tags.AcquisitionDateTime "DT" (ascii "20240101")
+    ++ (short Tags.Modality "CS" (ascii "XA")
+    ++ (short Tags.ContentQualification "CS" (ascii "PRODUCT ")
+    ++ (short Tags.PlanesInAcquisition "CS" (ascii "UNDEFINED ")
+    ++ (short Tags.SamplesPerPixel "US" (two 1)
+    ++ (short Tags.PhotometricInterpretation "CS" (ascii photometric)
+    ++ (short Tags.NumberOfFrames "IS" (ascii number)
+    ++ (short Tags.Rows "US" (two 1)
+    ++ (short Tags.Columns "US" (two columns)
+    ++ (short Tags.BitsAllocated "US" (two 8)
+    ++ (short Tags.BitsStored "US" (two 8)
+    ++ (short Tags.HighBit "US" (two 7)
+    ++ (short Tags.PixelRepresentation "US" (two 0)
+    ++ (short Tags.BurnedInAnnotation "CS" (ascii "NO")
+    ++ (short Tags.LossyImageCompression "CS" (ascii "00")
     ++ (mask
-    ++ (short 0x2050 0x0020 "CS" (ascii shape)
-    ++ (sequence 0x5200 0x9229 (item window)
-    ++ (sequence 0x5200 0x9230 items
-    ++ long 0x7FE0 0x0010 "OB" (evenPadded pixels)))))))))))))))))))))
+    ++ (short Tags.PresentationLUTShape "CS" (ascii shape)
+    ++ (sequence Tags.SharedFunctionalGroupsSequence (item window)
+    ++ (sequence Tags.PerFrameFunctionalGroupsSequence items
+    ++ long Tags.PixelData "OB" (evenPadded pixels)))))))))))))))))))))
 
 -- Three frames of one cell, with a mask.
 abbrev pub threeFrames : List ℕ → ℕ → ℕ → ℕ → List ℕ

@@ -24,7 +24,7 @@ reportedOf s buffer = ifAccepted (searchesOf (nodesOf s)) (judgeOf s buffer)
 abbrev pub countedOf : List ℕ → List ℕ → Counted
 countedOf s buffer = record { answer = judgeOf s buffer; searches = reportedOf s buffer }
 
--- The papers' numbers for each case: those of the answer, and the sum.
+-- The paper's numbers for each case: those of the answer, and the sum.
 pub record Reported : Type 0 where
   pub answer : Fields
   pub searches : ℕ

@@ -2,7 +2,7 @@
 use mathlib.Core.Path.{_≡_}
 use Prim.Native.Nat.{ℕ}
 use mathlib.Core.List.{List, [], _∷_, map}
-use Rattle.dataset.specs.Header.{itemTag}
+use Rattle.basics.specs.Tags.{itemTag}
 use Rattle.basics.specs.Vr.{SQ, CS, DS, UI, US}
 use Rattle.node.specs.Nodes.{Node}
 use Rattle.basics.specs.Tags

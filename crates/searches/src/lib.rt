@@ -19,7 +19,7 @@ use basics::tags;
 use conformance::JudgeAnswer;
 use value::Num;
 
-// The tables of specs/Searches. In the root, in ascending order of tags:
+// The tables of specs/Searches: the tags sought in the root, in ascending order.
 const ROOT: [usize; 33] = [
     tags::IMAGE_TYPE,
     tags::SOP_CLASS_UID,
@@ -56,7 +56,7 @@ const ROOT: [usize; 33] = [
     tags::PIXEL_DATA,
 ];
 
-// In each mask item:
+// The tags sought in each mask item.
 const MASK: [usize; 7] = [
     tags::MASK_OPERATION,
     tags::APPLICABLE_FRAME_RANGE,
@@ -67,7 +67,7 @@ const MASK: [usize; 7] = [
     tags::SUBTRACTION_ITEM_ID,
 ];
 
-// The groups of rules 28, 29, 30, 36, 37 and 39:
+// The groups of rules 28, 29, 30, 36, 37 and 39.
 const CONTENT: usize = tags::FRAME_CONTENT_SEQUENCE;
 
 const CHARACTERISTICS: usize = tags::XA_XRF_FRAME_CHARACTERISTICS_SEQUENCE;
@@ -80,7 +80,7 @@ const PROPERTIES: usize = tags::FRAME_PIXEL_DATA_PROPERTIES_SEQUENCE;
 
 const LUTS: usize = tags::PIXEL_INTENSITY_RELATIONSHIP_LUT_SEQUENCE;
 
-// In the items of those of rules 30, 37 and 39:
+// The tags sought in the items of the groups of rules 30, 37 and 39.
 const WINDOW: [usize; 3] = [
     tags::WINDOW_CENTER,
     tags::WINDOW_WIDTH,

@@ -3,7 +3,7 @@ use mathlib.Core.Path.{_≡_, sym, ap, _∙_}
 use mathlib.Core.Bool.{and-false}
 use mathlib.Core.List.{List, [], _∷_, _++_}
 use Prim.Native.Nat.{ℕ, suc, _+_, _-_, _≤_, _<_}
-use lib.ListN.{length, getD, length-replicate, List·getD-append}
+use lib.ListN.{length, getD, length-append, length-replicate, List·getD-append, List·getD-eq-default}
 use native.Mathlib.Omega.{arith}
 use borrow.Author.Tests.{le-leb, lt-leb}
 use Rattle.value.specs.declared.Num.the-variants.{Is, None}
@@ -35,9 +35,9 @@ module _ (ns : List Node) (a b count : ℕ) where
   unfolding acceptedAnswer
   order-wrong h = rw (lt-leb a b h)
 
-  frames-none : a ≤ b → framesOf ns ≡ None → acceptedAnswer ns a b count ≡ answer.NoFrame
+  frames-lacking : a ≤ b → framesOf ns ≡ None → acceptedAnswer ns a b count ≡ answer.NoFrame
   unfolding acceptedAnswer
-  frames-none order e = rw (le-leb a b order, e, none-frame a)
+  frames-lacking order e = rw (le-leb a b order, e, none-frame a)
 
   frames-below : a ≤ b → (n : ℕ) → framesOf ns ≡ Is n → a < 1 → acceptedAnswer ns a b count ≡ answer.NoFrame
   unfolding acceptedAnswer
@@ -60,7 +60,7 @@ module _ (ns : List Node) (a b count : ℕ) where
 
   module _ (order : a ≤ b) where
     pub no-frames : framesOf ns ≡ None → zeros answer.NoFrame ≡ withSheet ns a b (acceptedAnswer ns a b count)
-    no-frames e = answered answer.NoFrame (frames-none order e)
+    no-frames e = answered answer.NoFrame (frames-lacking order e)
 
     module _ (n : ℕ) (e : framesOf ns ≡ Is n) where
       pub below-frames : a < 1 → zeros answer.NoFrame ≡ withSheet ns a b (acceptedAnswer ns a b count)
@@ -74,7 +74,7 @@ module _ (ns : List Node) (a b count : ℕ) where
       is-done low high t q = ap (λ (x : Numbers). record { answer = answer.Done count; sheet = x }) q
           ∙ answered (answer.Done count) (frames-done order n e low high)
 
--- ---- The 260 numbers
+-- ---- The numbers of a sheet
 
 append-at : (l r : List ℕ) (k : ℕ) → getD (l ++ r) (length l + k) 0 ≡ getD r k 0
 append-at [] r k =
@@ -91,6 +91,9 @@ behind l r k j e h =
 
 pub in-front : (l r : List ℕ) (k : ℕ) → length l ≡ 256 → k < 256 → getD l k 0 ≡ getD (l ++ r) k 0
 in-front l r k e h = sym (List·getD-append l r 0 k (omega arith))
+
+pub beyond : (l r : List ℕ) (k : ℕ) → length l ≡ 256 → 256 + length r ≤ k → 0 ≡ getD (l ++ r) k 0
+beyond l r k e h = sym (List·getD-eq-default (l ++ r) 0 {n = k} (omega (arith, length-append l r)))
 
 -- A sheet has 256 counts, whatever the answer.
 pub counts-many : (s : List ℕ) (a b : ℕ) (buffer : List ℕ) → length (sheetOf s a b buffer .sheet .counts) ≡ 256

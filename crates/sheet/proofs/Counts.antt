@@ -1,4 +1,5 @@
--- Counts and lists of levels.
+-- A tally adds one at the place of each level, so from zeros it comes to the counts; and each level adds one to the counts, and itself to
+-- the sum.
 use mathlib.Core.Path.{_≡_, refl, sym, ap, _∙_}
 use mathlib.Core.Bool.{cond}
 use mathlib.Core.List.{List, [], _∷_, _++_}
@@ -13,7 +14,7 @@ use lib.ListN.{length, getD, set, drop, replicate, length-replicate, getD-replic
 use lib.Seq.{getD-set-same, getD-set-other, drop-cons, ext-getD}
 use borrow.Author.Tests.{eq-eqb, ne-eqb}
 use Rattle.display.specs.Drawing.{AllLevels}
-use Rattle.lines.specs.Contracts.{upTo}
+use Rattle.basics.specs.Lists.{upTo}
 use Rattle.lines.proofs.Lists.{upTo-length, upTo-at}
 use Rattle.sheet.specs.Sheet.{times, sumOf, countsOf}
 use Rattle.sheet.specs.Sampling.{total}
@@ -52,19 +53,24 @@ total-most f (suc n) m h =
     let e : suc n * m ≡ n * m + m = omega arith in
     omega (arith, e, total-most f n m (λ y l. h y (omega arith)), h n (omega arith))
 
--- One of n places is x.
-total-above : (x n : ℕ) → n ≤ x → total (λ y. cond (eqb x y) 1 0) n ≡ 0
+pub total-within : (f g : ℕ → ℕ) (n : ℕ) → ((y : ℕ) → y < n → f y ≡ g y) → total f n ≡ total g n
 unfolding total
-total-above x zero h = refl
-total-above x (suc n) h = rw (ne-eqb x n (λ e. omega arith)) (omega (arith, total-above x n (omega arith)))
+total-within f g zero e = refl
+total-within f g (suc n) e = omega (arith, total-within f g n (λ y h. e y (omega arith)), e n (omega arith))
 
-total-one : (x n : ℕ) → x < n → total (λ y. cond (eqb x y) 1 0) n ≡ 1
+-- One of n places is x, and counts as much as it weighs.
+total-above : (w : ℕ → ℕ) (x n : ℕ) → n ≤ x → total (λ y. w y * cond (eqb x y) 1 0) n ≡ 0
 unfolding total
-total-one x zero h = absurd (omega arith)
-total-one x (suc n) h =
+total-above w x zero h = refl
+total-above w x (suc n) h = rw (ne-eqb x n (λ e. omega arith)) (omega (arith, total-above w x n (omega arith)))
+
+total-one : (w : ℕ → ℕ) (x n : ℕ) → x < n → total (λ y. w y * cond (eqb x y) 1 0) n ≡ w x
+unfolding total
+total-one w x zero h = absurd (omega arith)
+total-one w x (suc n) h =
     dite (ℕ-discrete x n)
-    (λ e. rw (eq-eqb x n e) (omega (arith, total-above x n (omega arith))))
-    (λ d. rw (ne-eqb x n d) (omega (arith, total-one x n (below x n h d))))
+    (λ e. rw (eq-eqb x n e) (omega (arith, total-above w x n (omega arith), ap w e)))
+    (λ d. rw (ne-eqb x n d) (omega (arith, total-one w x n (below x n h d))))
   where
     below : (x n : ℕ) → x < suc n → (x ≡ n → ⊥) → x < n
     below x n h d = omega arith
@@ -72,18 +78,14 @@ total-one x (suc n) h =
 total-times : (l : List ℕ) → AllLevels l → total (λ y. times y l) 256 ≡ length l
 unfolding times
 total-times [] h = total-zero 256
-total-times (x ∷ l) h = total-plus (λ y. cond (eqb x y) 1 0) (λ y. times y l) 256
-    ∙ omega (arith, total-one x 256 (omega (arith, h .0)), total-times l (h .1))
+total-times (x ∷ l) h =
+    total-within (λ y. cond (eqb x y) 1 0 + times y l) (λ y. 1 * cond (eqb x y) 1 0 + times y l) 256 (λ y k. omega arith)
+    ∙ (total-plus (λ y. 1 * cond (eqb x y) 1 0) (λ y. times y l) 256
+    ∙ omega (arith, total-one (λ _. 1) x 256 (omega (arith, h .0)), total-times l (h .1)))
 
 -- The counts of levels add up to how many there are.
 pub counts-add : (l : List ℕ) → AllLevels l → sumOf (countsOf l) ≡ length l
 counts-add l h = sum-upTo (λ y. times y l) 256 ∙ total-times l h
-
--- ---- Levels of two lists
-
-pub levels-append : (xs ys : List ℕ) → AllLevels xs → AllLevels ys → AllLevels (xs ++ ys)
-levels-append [] ys a b = b
-levels-append (x ∷ xs) ys a b = (a .0, levels-append xs ys (a .1) b)
 
 -- ---- Tallies
 
@@ -177,33 +179,12 @@ times-most y (x ∷ l) =
 
 -- ---- The sum of all levels, from the counts
 
-pub total-same : (f g : ℕ → ℕ) (n : ℕ) → ((y : ℕ) → f y ≡ g y) → total f n ≡ total g n
-unfolding total
-total-same f g zero e = refl
-total-same f g (suc n) e = omega (arith, total-same f g n e, e n)
-
-weight-above : (x n : ℕ) → n ≤ x → total (λ y. y * cond (eqb x y) 1 0) n ≡ 0
-unfolding total
-weight-above x zero h = refl
-weight-above x (suc n) h = rw (ne-eqb x n (λ e. omega arith)) (omega (arith, weight-above x n (omega arith)))
-
-weight-one : (x n : ℕ) → x < n → total (λ y. y * cond (eqb x y) 1 0) n ≡ x
-unfolding total
-weight-one x zero h = absurd (omega arith)
-weight-one x (suc n) h =
-    dite (ℕ-discrete x n)
-    (λ e. rw (eq-eqb x n e) (omega (arith, weight-above x n (omega arith))))
-    (λ d. rw (ne-eqb x n d) (omega (arith, weight-one x n (below x n h d))))
-  where
-    below : (x n : ℕ) → x < suc n → (x ≡ n → ⊥) → x < n
-    below x n h d = omega arith
-
 -- Each level times its count: so the sum needs nothing more for a cell.
 pub sum-weighted : (l : List ℕ) → AllLevels l → total (λ y. y * times y l) 256 ≡ sumOf l
 unfolding times sumOf
-sum-weighted [] h = total-same (λ y. y * 0) (λ _. 0) 256 (λ y. omega arith) ∙ total-zero 256
+sum-weighted [] h = total-within (λ y. y * 0) (λ _. 0) 256 (λ y k. omega arith) ∙ total-zero 256
 sum-weighted (x ∷ l) h =
-    total-same (λ y. y * (cond (eqb x y) 1 0 + times y l)) (λ y. y * cond (eqb x y) 1 0 + y * times y l) 256
-    (λ y. mul-add y (cond (eqb x y) 1 0) (times y l))
+    total-within (λ y. y * (cond (eqb x y) 1 0 + times y l)) (λ y. y * cond (eqb x y) 1 0 + y * times y l) 256
+    (λ y k. mul-add y (cond (eqb x y) 1 0) (times y l))
     ∙ (total-plus (λ y. y * cond (eqb x y) 1 0) (λ y. y * times y l) 256
-    ∙ omega (arith, weight-one x 256 (omega (arith, h .0)), sum-weighted l (h .1)))
+    ∙ omega (arith, total-one (λ y. y) x 256 (omega (arith, h .0)), sum-weighted l (h .1)))

@@ -1,14 +1,12 @@
--- One frame after the other: its item, its levels, and the room that is left in the counts.
-use mathlib.Core.Path.{_≡_, sym, ap, _∙_, subst}
+-- Counting one frame more leaves one frame fewer to count, so what is counted and what is left come to the same; the cursor over the
+-- items moves with the frames.
+use mathlib.Core.Path.{_≡_, sym, ap, _∙_}
 use mathlib.Core.Bool.{Bool, true, false, cond}
 use mathlib.Core.List.{List}
-use mathlib.Core.Option.{Option}
 use Prim.Native.Nat.{ℕ, zero, suc, _+_, _-_, _*_, _≤_, _<_}
 use native.Mathlib.Omega.{arith}
 use lib.ListN.{length, drop}
 use borrow.Author.Tests.{le-leb, ne-eqb}
-use Rattle.value.specs.Number.{numberOr0}
-use Rattle.value.specs.declared.Num.{Num}
 use Rattle.value.specs.declared.Num.the-variants.{Is, None}
 use Rattle.node.specs.Nodes.{Node, nodesOf}
 use Rattle.node.proofs.Walks.{members-end, members-next}
@@ -16,15 +14,12 @@ use Rattle.element.specs.declared.Items.{Items}
 use Rattle.element.specs.Contracts.{Along}
 use Rattle.element.specs.Elements.{first}
 use Rattle.element.specs.Frames.{frameItems}
-use Rattle.steps.specs.Steps.{Picture}
-use Rattle.display.specs.Show.{imageSize, pictureIn, pictureOf}
-use Rattle.display.specs.Drawing.{Whole}
-use Rattle.display.proofs.Lacking.{nothing-lacks}
+use Rattle.display.specs.Show.{pictureOf}
 use Rattle.ranges.specs.Contracts.{itemOf}
 use Rattle.steps.specs.Contracts.{ApplyingBelow}
 use Rattle.sheet.specs.Sheet.{levelsOf, nativesOf}
 use Rattle.sheet.specs.Contracts.{tallied, Room}
-use Rattle.display.specs.Contracts.{IsObject, IsItem}
+use Rattle.display.specs.Contracts.{IsItem}
 use Rattle.sheet.proofs.Counts.{tallied-append}
 use Rattle.sheet.proofs.Runs.{tallied-most}
 
@@ -41,14 +36,6 @@ module _ (ns : List Node) (f : ℕ) (c : Items) (w : Along ns (drop (f - 1) (fra
   item-none h = record { is = rw (le-leb 1 f low) (sym (ap first (sym (w .ahead) ∙ members-end ns (c .at) (c .end) h))); below = tt }
 
 -- ---- Levels and room
-
-pub picture-cells : (s : List ℕ) (n f : ℕ) → IsObject s n → 1 ≤ f → f ≤ n
-    → length (pictureOf (nodesOf s) f .samples) ≡ imageSize (nodesOf s)
-unfolding pictureOf
-picture-cells s n f h low high =
-    let w : Whole (nodesOf s) f = nothing-lacks s (h .bytes) (h .sound) f low
-    (subst (λ (x : Num). f ≤ numberOr0 x) (sym (h .frames)) high) in
-    ap (λ (p : Option Picture). length (pictureIn p .samples)) (w .is) ∙ w .size
 
 -- What is left to count, with one frame counted.
 pub frames-more : (ns : List Node) (f end : ℕ) (now after : List ℕ) → f < end → after ≡ tallied (pictureOf ns f .samples) now

@@ -2,7 +2,6 @@
 pub mod Counts
 pub mod Lowest
 pub mod Runs
-pub mod Levels
 pub mod Scenes
 pub mod Frames
 pub mod Answers

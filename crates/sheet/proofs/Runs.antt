@@ -1,14 +1,12 @@
--- Counting a frame line by line.
+-- The lines of a frame counted one after the other are its cells counted, since a tally of two lists is that of the one after the other.
 use mathlib.Core.Path.{_≡_, sym, ap, _∙_}
 use mathlib.Core.List.{List, [], _∷_}
 use Prim.Native.Nat.{ℕ, _+_, _*_, _≤_, _<_}
 use native.Mathlib.Nat.{mul-le-mul-right}
 use native.Mathlib.Omega.{arith}
-use lib.ListN.{length, getD, set, take}
-use Rattle.pixel.specs.Contracts.{painted}
-use Rattle.pixel.proofs.Laws.{painted-length}
-use Rattle.lines.specs.Contracts.{upTo}
-use Rattle.lines.proofs.Lists.{upTo-length, upTo-plus, painted-take}
+use lib.ListN.{length, getD, set}
+use Rattle.basics.specs.Lists.{upTo}
+use Rattle.lines.proofs.Lists.{upTo-length, upTo-plus}
 use Rattle.sheet.specs.Contracts.{tallied, Room}
 use Rattle.sheet.proofs.Counts.{tallied-append, bump-most}
 
@@ -43,10 +41,3 @@ unfolding tallied upTo
 no-line f columns c =
     let z : 0 * columns ≡ 0 = omega arith in
     rw z
-
--- A line that was painted, and its first n places.
-pub line-length : (f : ℕ → ℕ) (n : ℕ) (s : List ℕ) {after : List ℕ} → after ≡ painted f n s → length after ≡ length s
-line-length f n s e = ap length e ∙ painted-length f n s
-
-pub line-list : (f : ℕ → ℕ) (n : ℕ) (s : List ℕ) {after : List ℕ} → after ≡ painted f n s → n ≤ length s → take n after ≡ upTo f n
-line-list f n s e h = ap (take n) e ∙ painted-take f n s h

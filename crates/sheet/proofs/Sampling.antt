@@ -24,7 +24,7 @@ use Rattle.display.specs.Show.{isFrameOf, imageSize, pictureIn, pictureOf}
 use Rattle.display.specs.Drawing.{IsAccepted, Whole, AllLevels}
 use Rattle.display.proofs.Small.{us-in-small}
 use Rattle.display.proofs.Objects.{object}
-use Rattle.display.proofs.Lacking.{geometry-size, nothing-lacks}
+use Rattle.display.proofs.Lacking.{all-levels-append, geometry-size, nothing-lacks}
 use Rattle.display.proofs.Codes.{was-frame, judged-accepted, was-judged}
 use Rattle.display.proofs.Drawing.{drawing}
 use Rattle.lines.proofs.Lists.{upTo-length}
@@ -37,8 +37,8 @@ use Rattle.sheet.specs.Answer.{acceptedAnswer, answerFor, sheetFor, shee
 use Rattle.sheet.specs.Contracts.{Few, First, Last}
 use Rattle.display.specs.Contracts.{IsObject, IsScene}
 use Rattle.sheet.specs.Sampling.{Range, total, Consistent, SheetBack, Sampling}
-use Rattle.sheet.proofs.Counts.{counts-add, levels-append, count-is, times-most, upTo-most, sum-weighted}
-use Rattle.display.proofs.Scenes.{cells-few}
+use Rattle.sheet.proofs.Counts.{total-within, counts-add, count-is, times-most, upTo-most, sum-weighted}
+use Rattle.display.proofs.Scenes.{whole-size, cells-few}
 use Rattle.sheet.proofs.Lowest.{first-is, last-is, either, times-same, times-more, low-most, low-none, low-found, high-most}
 use Rattle.sheet.proofs.Lowest.{high-none, high-found}
 use Rattle.sheet.proofs.Frames.{natives-few}
@@ -55,7 +55,7 @@ unfolding pictureOf
 cells ns f w =
     let e : pictureIn (stepsOf ns f) ≡ w .p = ap pictureIn (w .is) in
     record {
-      size = ap (λ (p : Picture). length (p .samples)) e ∙ w .size;
+      size = whole-size ns f w;
       levels = subst (λ (p : Picture). AllLevels (p .samples)) (sym e) (w .levels);
     }
 
@@ -72,7 +72,7 @@ run ns a (suc n) w =
     let e : suc n * imageSize ns ≡ imageSize ns + n * imageSize ns = omega arith in
     record {
       size = length-append (pictureOf ns a .samples) (levelsOf ns (a + 1) n) ∙ omega (arith, c .size, r .size, e);
-      levels = levels-append (pictureOf ns a .samples) (levelsOf ns (a + 1) n) (c .levels) (r .levels);
+      levels = all-levels-append (pictureOf ns a .samples) (levelsOf ns (a + 1) n) (c .levels) (r .levels);
     }
 
 -- ---- A sheet of levels, of which there is one
@@ -105,11 +105,6 @@ high-drawn (x ∷ l) h = ⊎-elim first (λ k. higher k (high-found l)) (either 
         let q : x ≡ highestOf l = omega (arith, e, k) in
         subst (λ (y : ℕ). 1 ≤ times y (x ∷ l)) (q ∙ sym (max-eq-right k)) (times-same x l)
 
-total-within : (f g : ℕ → ℕ) (n : ℕ) → ((y : ℕ) → y < n → f y ≡ g y) → total f n ≡ total g n
-unfolding total
-total-within f g zero e = refl
-total-within f g (suc n) e = omega (arith, total-within f g n (λ y h. e y (omega arith)), e n (omega arith))
-
 consistent : (l : List ℕ) (natives n size : ℕ) → AllLevels l → length l ≡ n * size → 1 ≤ length l → natives ≤ n
     → Consistent (sheetBy l natives) n size
 consistent l natives n size a e some few =
@@ -128,50 +123,49 @@ consistent l natives n size a e some few =
 -- ---- What the code works out
 
 module _ (s : List ℕ) (n a b : ℕ) (h : IsObject s n) (low : 1 ≤ a) (order : a ≤ b) (high : b ≤ n) where
-  object-run : Run (nodesOf s) a (b + 1 - a)
+  object-run : Run (nodesOf s) a (b - a + 1)
   object-run =
-      run (nodesOf s) a (b + 1 - a) (λ f l k. nothing-lacks s (h .bytes) (h .sound) f (omega (arith, low, l))
+      run (nodesOf s) a (b - a + 1) (λ f l k. nothing-lacks s (h .bytes) (h .sound) f (omega (arith, low, l))
       (subst (λ (x : Num). f ≤ numberOr0 x) (sym (h .frames)) (omega (arith, order, high, k))))
 
-  pub few-counts : (c : Scene) → IsScene (nodesOf s) c → (counts : List ℕ) → counts ≡ countsOf (levelsOf (nodesOf s) a (b + 1 - a))
+  pub few-counts : (c : Scene) → IsScene (nodesOf s) c → (counts : List ℕ) → counts ≡ countsOf (levelsOf (nodesOf s) a (b - a + 1))
       → Few counts
   few-counts c q counts e =
       record {
-        size = ap length e ∙ upTo-length (λ y. times y (levelsOf (nodesOf s) a (b + 1 - a))) 256;
+        size = ap length e ∙ upTo-length (λ y. times y (levelsOf (nodesOf s) a (b - a + 1))) 256;
         below = λ y. rw e (omega (
           arith,
-          upTo-most (λ x. times x (levelsOf (nodesOf s) a (b + 1 - a))) 256 281462092005375
+          upTo-most (λ x. times x (levelsOf (nodesOf s) a (b - a + 1))) 256 281462092005375
               (λ x. omega (
                 arith,
-                times-most x (levelsOf (nodesOf s) a (b + 1 - a)),
+                times-most x (levelsOf (nodesOf s) a (b - a + 1)),
                 object-run .size,
-                cells-few s n h (omega (arith, low, order, high)) c q (b + 1 - a) (omega (arith, low, order, high)),
+                cells-few s n h (omega (arith, low, order, high)) c q (b - a + 1) (omega (arith, low, order, high)),
               )) y,
         ));
       }
 
-  pub made : (counts : List ℕ) (natives lowest highest sum : ℕ) → counts ≡ countsOf (levelsOf (nodesOf s) a (b + 1 - a))
-      → natives ≡ nativesOf (nodesOf s) a (b + 1 - a)
+  pub made : (counts : List ℕ) (natives lowest highest sum : ℕ) → counts ≡ countsOf (levelsOf (nodesOf s) a (b - a + 1))
+      → natives ≡ nativesOf (nodesOf s) a (b - a + 1)
       → First counts lowest → Last counts highest → sum ≡ total (λ y. y * getD counts y 0) 256
       → record { counts = counts; natives = natives; lowest = lowest; highest = highest; sum = sum } ≡ framesSheet (nodesOf s) a b
   unfolding framesSheet
   made counts natives lowest highest sum e ne f l t =
-      let levels : List ℕ = levelsOf (nodesOf s) a (b + 1 - a) in
-      let z : b + 1 - a ≡ b - a + 1 = omega (arith, order) in
+      let levels : List ℕ = levelsOf (nodesOf s) a (b - a + 1) in
       let lo : lowest ≡ lowestOf levels = first-is levels (object-run .levels) counts e lowest f in
       let hi : highest ≡ highestOf levels = last-is levels (object-run .levels) counts e highest l in
       let u : sum ≡ sumOf levels =
       t ∙ (total-within (λ y. y * getD counts y 0) (λ y. y * times y levels) 256
       (λ y k. ap (λ (x : ℕ). y * x) (ap (λ (x : List ℕ). getD x y 0) e ∙ count-is levels y k))
       ∙ sum-weighted levels (object-run .levels)) in
-      same counts natives lowest highest sum e ne lo hi u ∙ ap (λ (k : ℕ). sheetBy (levelsOf (nodesOf s) a k) (nativesOf (nodesOf s) a k)) z
+      same counts natives lowest highest sum e ne lo hi u
     where
-      same : (counts : List ℕ) (natives lowest highest sum : ℕ) → counts ≡ countsOf (levelsOf (nodesOf s) a (b + 1 - a))
-          → natives ≡ nativesOf (nodesOf s) a (b + 1 - a)
-          → lowest ≡ lowestOf (levelsOf (nodesOf s) a (b + 1 - a)) → highest ≡ highestOf (levelsOf (nodesOf s) a (b + 1 - a))
-          → sum ≡ sumOf (levelsOf (nodesOf s) a (b + 1 - a))
+      same : (counts : List ℕ) (natives lowest highest sum : ℕ) → counts ≡ countsOf (levelsOf (nodesOf s) a (b - a + 1))
+          → natives ≡ nativesOf (nodesOf s) a (b - a + 1)
+          → lowest ≡ lowestOf (levelsOf (nodesOf s) a (b - a + 1)) → highest ≡ highestOf (levelsOf (nodesOf s) a (b - a + 1))
+          → sum ≡ sumOf (levelsOf (nodesOf s) a (b - a + 1))
           → record { counts = counts; natives = natives; lowest = lowest; highest = highest; sum = sum }
-          ≡ sheetBy (levelsOf (nodesOf s) a (b + 1 - a)) (nativesOf (nodesOf s) a (b + 1 - a))
+          ≡ sheetBy (levelsOf (nodesOf s) a (b - a + 1)) (nativesOf (nodesOf s) a (b - a + 1))
       same counts natives lowest highest sum p q r u v = rw (p, q, r, u, v)
 
 -- ---- From the answer back to what was asked
@@ -199,10 +193,10 @@ module _ (s : List ℕ) (a b : ℕ) where
       go false u p q e = absurd (omega (arith, e))
 
   module _ (buffer : List ℕ) where
-    answered : IsAccepted s → Range s a b → width * length (rowsOf s) ≤ length buffer
+    answer-is : IsAccepted s → Range s a b → width * length (rowsOf s) ≤ length buffer
         → sheetOf s a b buffer .answer ≡ answer.Done (length (rowsOf s))
     unfolding sheetOf
-    answered acc r room = rw (judged-accepted s buffer acc room) (answer-done (length (rowsOf s)) r)
+    answer-is acc r room = rw (judged-accepted s buffer acc room) (answer-done (length (rowsOf s)) r)
 
     sheet-is : sheetOf s a b buffer .sheet ≡ sheetFor (nodesOf s) a b (sheetOf s a b buffer .answer)
     unfolding sheetOf
@@ -216,14 +210,14 @@ module _ (s : List ℕ) (a b : ℕ) where
         (record { broken = λ n rule frame. refl; refused = λ code offset. refl; too-large = refl; no-room = refl }) e in
         (j .accepted, (was-range (length (j .accepted .rows)) (j .code), j .room))
 
-  zeros : (r : SheetAnswer) → 1 ≤ fieldsOf r .code → sheetFor (nodesOf s) a b r ≡ noSheet
-  zeros (answer.Done n) h = absurd (omega arith)
-  zeros (answer.Broken n rule frame) h = refl
-  zeros (answer.Refused code offset) h = refl
-  zeros answer.TooLarge h = refl
-  zeros answer.NoRoom h = refl
-  zeros answer.WrongOrder h = refl
-  zeros answer.NoFrame h = refl
+  refusal-zeros : (r : SheetAnswer) → 1 ≤ fieldsOf r .code → sheetFor (nodesOf s) a b r ≡ noSheet
+  refusal-zeros (answer.Done n) h = absurd (omega arith)
+  refusal-zeros (answer.Broken n rule frame) h = refl
+  refusal-zeros (answer.Refused code offset) h = refl
+  refusal-zeros answer.TooLarge h = refl
+  refusal-zeros answer.NoRoom h = refl
+  refusal-zeros answer.WrongOrder h = refl
+  refusal-zeros answer.NoFrame h = refl
 
 -- ---- The claim
 
@@ -256,7 +250,7 @@ module _ (s : List ℕ) (bytes : IsBytes s) (a b : ℕ) (acc : IsAccepted s) (r 
 
   handed : (buffer : List ℕ) → width * length (rowsOf s) ≤ length buffer → SheetBack s a b buffer
   handed buffer room =
-      let is : sheetOf s a b buffer .answer ≡ answer.Done (length (rowsOf s)) = answered s a b buffer acc r room in
+      let is : sheetOf s a b buffer .answer ≡ answer.Done (length (rowsOf s)) = answer-is s a b buffer acc r room in
       let sheet : sheetOf s a b buffer .sheet ≡ framesSheet (nodesOf s) a b = sheet-is s a b buffer ∙ ap (sheetFor (nodesOf s) a b) is in
       record {
         rows = ap (λ (x : SheetAnswer). fieldsOf x .rows) is;
@@ -268,10 +262,10 @@ module _ (s : List ℕ) (bytes : IsBytes s) (a b : ℕ) (acc : IsAccepted s) (r 
 pub sampling : Sampling
 sampling s bytes a b buffer =
     record {
-      done = λ acc r room. ap (λ (x : SheetAnswer). fieldsOf x .code) (answered s a b buffer acc r room);
+      done = λ acc r room. ap (λ (x : SheetAnswer). fieldsOf x .code) (answer-is s a b buffer acc r room);
       nothing-else = was-done s a b buffer;
       as-drawn = λ e.
           let w = was-done s a b buffer e in
           handed s bytes a b (w .0) (w .1 .0) buffer (w .1 .1);
-      refused = λ h. sheet-is s a b buffer ∙ zeros s a b (sheetOf s a b buffer .answer) h;
+      refused = λ h. sheet-is s a b buffer ∙ refusal-zeros s a b (sheetOf s a b buffer .answer) h;
     }

@@ -47,7 +47,7 @@ withSheet ns a b r = record { answer = r; sheet = sheetFor ns a b r }
 unfoldable pub sheetOf : List ℕ → ℕ → ℕ → List ℕ → Sampled
 sheetOf s a b buffer = withSheet (nodesOf s) a b (answerFor (nodesOf s) a b (judgeOf s buffer))
 
--- The papers' numbers for each case, and of what `sheet` hands back; the sheet's own numbers are `numbersIn`.
+-- The paper's numbers for each case, and of what `sheet` hands back; the sheet's own numbers are `numbersIn`.
 abbrev pub fieldsOf : SheetAnswer → Fields
 fieldsOf (answer.Done n) = counted n
 fieldsOf (answer.Broken n rule frame) = broken n rule frame

@@ -1,18 +1,27 @@
 -- What the counting functions require and promise. None of this is in the papers.
 use mathlib.Core.Path.{_≡_}
-use mathlib.Core.Bool.{Bool, true}
+use mathlib.Core.Bool.{Bool}
 use mathlib.Core.Logic.{_⊎_}
 use mathlib.Core.List.{List, [], _∷_}
-use Prim.Native.Nat.{ℕ, _+_, _≤_, _<_, _^_}
-use lib.ListN.{length, getD, set, replicate}
-use Rattle.node.specs.Nodes.{Node}
-use Rattle.pixel.specs.declared.Geometry.{Geometry}
-use Rattle.pixel.specs.Pixel.{isFrame}
-use Rattle.pixel.specs.Contracts.{Shaped, longestRow}
+use Prim.Native.Nat.{ℕ, _+_, _-_, _≤_, _<_, _^_}
+use lib.ListN.{length, getD, set, drop, replicate}
+use Rattle.basics.specs.Limits.{mostMasks}
+use Rattle.value.specs.Number.{numberOr0}
+use Rattle.node.specs.Nodes.{Node, nodesOf}
+use Rattle.node.specs.Contracts.{Table}
+use Rattle.element.specs.declared.Items.{Items}
+use Rattle.element.specs.Contracts.{Along}
+use Rattle.element.specs.Frames.{frameItems, framesOf}
+use Rattle.window.specs.Contracts.{shadePlaces}
+use Rattle.pixel.specs.Contracts.{longestRow}
 use Rattle.lines.specs.Contracts.{Shaded}
+use Rattle.display.specs.declared.Scene.{Scene}
+use Rattle.display.specs.Contracts.{IsObject, IsScene}
 use Rattle.ranges.specs.Contracts.{Applied, Known}
 use Rattle.sheet.specs.declared.Held.{Held}
 use Rattle.sheet.specs.declared.Counted.{Counted}
+use Rattle.sheet.specs.declared.Span.{Span}
+use Rattle.sheet.specs.declared.Span.the-variants as span
 
 -- ---- Counts
 
@@ -48,20 +57,24 @@ pub record IsAhead (ns : List Node) (n : ℕ) (which keys answers : List ℕ) : 
   pub applied : Applied ns n which
   pub size : n < length which
   pub known : Known ns keys answers
-  pub key-room : 16 ≤ length keys
-  pub answer-room : 16 ≤ length answers
+  pub key-room : mostMasks ≤ length keys
+  pub answer-room : mostMasks ≤ length answers
+
+-- Frames a to b of an accepted object of n frames, with the items from frame a's on.
+pub record RangeReady (s rows : List ℕ) (n : ℕ) (c : Scene) (start : Items) (a b : ℕ) : Type 0 where
+  pub table : Table s rows
+  pub object : IsObject s n
+  pub scene : IsScene (nodesOf s) c
+  pub items : Along (nodesOf s) (drop (a - 1) (frameItems (nodesOf s))) start
+  pub low : 1 ≤ a
+  pub order : a ≤ b
+  pub high : b ≤ n
 
 -- ---- Buffers
 
--- The pixel bytes hold the frame, and there is room for a line.
-pub record FrameReady (v : List ℕ) (g : Geometry) (f : ℕ) (line : List ℕ) : Type 0 where
-  pub shape : Shaped g
-  pub inside : isFrame g v f ≡ true
-  pub wide : 65535 ≤ length line
-
 -- The lengths of all buffers.
 pub record LineRooms (table upper lower line : List ℕ) : Type 0 where
-  pub shades : length table ≡ 131072
+  pub shades : length table ≡ shadePlaces
   pub above : longestRow ≤ length upper
   pub below : longestRow ≤ length lower
   pub wide : 65535 ≤ length line
@@ -70,10 +83,21 @@ pub record LineRooms (table upper lower line : List ℕ) : Type 0 where
 pub record IsHeld (stored : ℕ) (inverse : Bool) (h : Held) (table : List ℕ) : Type 0 where
   pub shaded : Shaded (h .shades) stored table
   pub inverse-is : h .shades .inverse ≡ inverse
-  pub spent-few : h .spent < 131072
+  pub spent-few : h .spent < shadePlaces
 
 -- Nothing counted yet.
 pub record IsNothing (stored : ℕ) (inverse : Bool) (c : Counted) : Type 0 where
   pub counts-are : c .counts ≡ replicate 256 0
   pub natives-are : c .natives ≡ 0
   pub held-is : (table : List ℕ) → IsHeld stored inverse (c .held) table
+
+-- ---- Spans
+
+-- The first and the last frame of a span, in the object of the nodes.
+abbrev pub firstIn : Span → ℕ
+firstIn span.All = 1
+firstIn (span.From a b) = a
+
+abbrev pub lastIn : List Node → Span → ℕ
+lastIn ns span.All = numberOr0 (framesOf ns)
+lastIn ns (span.From a b) = b

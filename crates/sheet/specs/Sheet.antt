@@ -7,7 +7,7 @@ use mathlib.Core.List.{List, [], _∷_, _++_}
 use lib.ListN.{replicate}
 use lib.Dec.{eqb}
 use Rattle.node.specs.Nodes.{Node}
-use Rattle.lines.specs.Contracts.{upTo}
+use Rattle.basics.specs.Lists.{upTo}
 use Rattle.display.specs.Show.{pictureOf}
 use Rattle.sheet.specs.declared.Numbers.{Numbers}
 
@@ -61,6 +61,9 @@ framesSheet ns a b = sheetBy (levelsOf ns a (b - a + 1)) (nativesOf ns a (b - a 
 abbrev pub noSheet : Numbers
 noSheet = record { counts = replicate 256 0; natives = 0; lowest = 0; highest = 0; sum = 0 }
 
--- Its 260 numbers, in the order named.
+-- How many numbers a sheet has; and the numbers, in the order named.
+abbrev pub sheetSize : ℕ
+sheetSize = 260
+
 abbrev pub numbersIn : Numbers → List ℕ
 numbersIn t = t .counts ++ (t .natives ∷ t .lowest ∷ t .highest ∷ t .sum ∷ [])

@@ -1,7 +1,7 @@
 // The sampling sheet: how often each grey level was drawn over frames a to b of an accepted object.
 ghost use mathlib.Core.Path.{_≡_};
 ghost use mathlib.Core.Bool.{true, cond};
-ghost use Prim.Native.Nat.{ℕ, _+_, _-_, _*_, _/_, _%_, _≤_, _<_};
+ghost use Prim.Native.Nat.{ℕ, _+_, _-_, _*_, _≤_, _<_};
 ghost use lib.ListN.{length, getD, drop};
 ghost use Rattle.dataset.specs.Reading.{readingOf};
 ghost use Rattle.basics.specs.Fields.{Answers};
@@ -15,18 +15,22 @@ ghost use Rattle.element.specs.Elements.{valueAt};
 ghost use Rattle.element.specs.Frames.{framesOf, frameItems};
 ghost use Rattle.conformance.specs.declared.Finding.the-variants as finding;
 ghost use Rattle.conformance.specs.Judging.{findingOf};
-ghost use Rattle.window.specs.Contracts.{Drawable};
+ghost use Rattle.window.specs.Contracts.{Drawable, shadePlaces};
 ghost use Rattle.pixel.specs.Pixel.{samplesOf};
-ghost use Rattle.pixel.specs.Contracts.{nativeShade, maskedShade, longestRow, Masks, shifted, Averaged, quarterShade};
-ghost use Rattle.lines.specs.Contracts.{upTo, shadesOf, Shaded, MaskedBy};
+ghost use Rattle.pixel.specs.Contracts.{maskedShade, Masks};
+ghost use Rattle.lines.specs.Contracts.{shadesOf, LinesReady, WayReady, wayShade};
+ghost use Rattle.basics.specs.Lists.{upTo};
 ghost use Rattle.ranges.specs.Contracts.{Known};
 ghost use Rattle.steps.specs.Contracts.{ApplyingBelow};
-ghost use Rattle.display.specs.Contracts.{isMasked, shadeBy, MasksReady, ToldBy, IsObject, IsScene, IsPixels, IsItem, IsPlan};
+ghost use Rattle.display.specs.Contracts.{isMasked, shadeBy, MasksReady, ToldBy, IsObject, IsScene, IsPixels, IsItem, IsPlan, PlanReady};
 ghost use Rattle.display.specs.Show.{imageSize, pictureOf};
 ghost use Rattle.sheet.specs.Sheet.{levelsOf, nativesOf, countsOf, framesSheet, noSheet, numbersIn};
 ghost use Rattle.sheet.specs.Answer.{acceptedAnswer, withSheet, sheetOf, sampledFields};
 ghost use Rattle.sheet.specs.Sampling.{total};
-ghost use Rattle.sheet.specs.Contracts.{tallied, Room, Few, First, Last, IsAhead, FrameReady, LineRooms, IsHeld, IsNothing};
+ghost use Rattle.sheet.specs.Contracts.{tallied, Room, Few, First, Last, IsAhead, RangeReady, LineRooms, IsHeld, IsNothing};
+ghost use Rattle.sheet.specs.Contracts.{firstIn, lastIn};
+ghost use Rattle.basics.specs.Limits.{mostMasks};
+use basics::MOST_MASKS;
 use basics::wide;
 use conformance::JudgeAnswer;
 use display::Masking;
@@ -34,6 +38,7 @@ use display::Plan;
 use display::Scene;
 use element::Items;
 use lines::Shades;
+use lines::Way;
 use pixel::Geometry;
 use shift::Moves;
 use steps::Applying;
@@ -42,6 +47,9 @@ use value::Function;
 use value::Num;
 use value::Signed;
 use window::Window;
+
+// How many numbers a sheet has.
+pub const NUMBERS: usize = 260;
 
 // The answer of `sheet`: done, with the number of rows; code 9, with the number of rows, rule and frame; code and offset of a
 // refusal; codes 7, 8, 19 and 10.
@@ -64,6 +72,12 @@ pub struct Numbers {
     pub sum: usize,
 }
 
+// Which frames a sheet is of: all, or those from one number to another.
+enum Span {
+    All,
+    From(usize, usize),
+}
+
 // An answer and the sheet that comes with it.
 pub struct Sampled {
     pub answer: SheetAnswer,
@@ -77,90 +91,21 @@ fn tally(counts: [u64; 256], line: &[u8]) -> [u64; 256]
     requires { ⌜ Room counts (length (now line)) ⌝ }
     ensures { λ r. ⌜ r ≡ tallied (now (line .entry)) counts ⌝ }
 {
-    let mut now = counts;
+    let mut sofar = counts;
     for i in 0..line.len() {
         let y = wide(line[i]);
-        now[y] += 1;
+        sofar[y] += 1;
     }
-    now
+    sofar
 }
 
-// The counts with the levels of a frame that takes no mask.
-fn count_native(
-    pixels: &[u8],
-    g: Geometry,
-    frame: usize,
-    shades: Shades,
-    table: &[u8],
-    line: &mut [u8],
-    counts: [u64; 256],
-) -> [u64; 256]
-    requires { ⌜ FrameReady (now pixels) g frame (now line) × (Shaded shades (g .stored) (now table) × Room counts (samplesOf g)) ⌝ }
-    ensures { λ r. ⌜ r ≡ tallied (upTo (nativeShade (shadesOf shades (g .stored)) g (now (pixels .entry)) frame) (samplesOf g)) counts ⌝ }
-{
-    let height = g.rows;
-    let columns = g.columns;
-    let mut now = counts;
-    for row in 0..height {
-        lines::native_line(pixels, g, frame, row, shades, table, line);
-        let next = tally(now, &line[..columns]);
-        now = next;
-    }
-    now
-}
-
-// The counts with the levels of a frame whose mask is moved by whole pixels.
-fn count_whole(
+// The counts with the levels of all lines of a frame, drawn by its way.
+fn count_lines(
+    way: Way,
     pixels: &[u8],
     g: Geometry,
     frame: usize,
     masks: &[u8],
-    down: usize,
-    right: usize,
-    shades: Shades,
-    table: &[u8],
-    sums: &mut [u32],
-    line: &mut [u8],
-    counts: [u64; 256],
-) -> [u64; 256]
-    requires { ⌜ FrameReady (now pixels) g frame (now line)
-        × (MaskedBy (now pixels) g (now masks) down right
-        × (Shaded shades (g .stored) (now table)
-        × ((shades .filled ≡ true)
-        × ((down % 4 ≡ 0) × ((right % 4 ≡ 0) × ((longestRow ≤ length (now sums)) × Room counts (samplesOf g))))))) ⌝ }
-    ensures { λ r. ⌜ r ≡ tallied (upTo (quarterShade (shadesOf shades (g .stored)) g (now (pixels .entry)) frame (usValues (now (masks .entry))) down right) (samplesOf g)) counts ⌝ }
-{
-    let height = g.rows;
-    let columns = g.columns;
-    let mut now = counts;
-    for row in 0..height {
-        lines::whole_line(
-            pixels,
-            g,
-            frame,
-            masks,
-            down,
-            right,
-            row,
-            shades,
-            table,
-            sums,
-            line,
-        );
-        let next = tally(now, &line[..columns]);
-        now = next;
-    }
-    now
-}
-
-// The counts with the levels of a frame whose mask rows are blended two at a time. `lower` holds the first line's upper row.
-fn count_quarters(
-    pixels: &[u8],
-    g: Geometry,
-    frame: usize,
-    masks: &[u8],
-    down: usize,
-    right: usize,
     shades: Shades,
     table: &[u8],
     upper: &mut [u32],
@@ -168,25 +113,22 @@ fn count_quarters(
     line: &mut [u8],
     counts: [u64; 256],
 ) -> [u64; 256]
-    requires { ⌜ FrameReady (now pixels) g frame (now line)
-        × (MaskedBy (now pixels) g (now masks) down right
-        × (Shaded shades (g .stored) (now table)
-        × ((longestRow ≤ length (now upper))
-        × ((longestRow ≤ length (now lower))
-        × (Averaged (now pixels) g (usValues (now masks)) (shifted (down / 4) (g .rows) 0) (now lower) × Room counts (samplesOf g)))))) ⌝ }
-    ensures { λ r. ⌜ r ≡ tallied (upTo (quarterShade (shadesOf shades (g .stored)) g (now (pixels .entry)) frame (usValues (now (masks .entry))) down right) (samplesOf g)) counts ⌝ }
+    requires { ⌜ LinesReady (now pixels) g frame shades (now table) (now upper) (now lower) (now line)
+        × (WayReady way (now pixels) g (now masks) (shades .filled) 0 (now upper) (now lower) × Room counts (samplesOf g)) ⌝ }
+    ensures { λ r. ⌜ r
+        ≡ tallied (upTo (wayShade way (shadesOf shades (g .stored)) g (now (pixels .entry)) frame (usValues (now (masks .entry))))
+        (samplesOf g)) counts ⌝ }
 {
     let height = g.rows;
     let columns = g.columns;
-    let mut now = counts;
+    let mut sofar = counts;
     for row in 0..height {
-        lines::quarter_line(
+        lines::draw_line(
+            way,
             pixels,
             g,
             frame,
             masks,
-            down,
-            right,
             row,
             shades,
             table,
@@ -194,115 +136,14 @@ fn count_quarters(
             lower,
             line,
         );
-        let next = tally(now, &line[..columns]);
-        now = next;
+        let next = tally(sofar, &line[..columns]);
+        sofar = next;
     }
-    now
+    sofar
 }
 
-// The same, with the first line's upper row made here.
-fn count_blended(
-    pixels: &[u8],
-    g: Geometry,
-    frame: usize,
-    masks: &[u8],
-    down: usize,
-    right: usize,
-    shades: Shades,
-    table: &[u8],
-    upper: &mut [u32],
-    lower: &mut [u32],
-    line: &mut [u8],
-    counts: [u64; 256],
-) -> [u64; 256]
-    requires { ⌜ FrameReady (now pixels) g frame (now line)
-        × (MaskedBy (now pixels) g (now masks) down right
-        × (Shaded shades (g .stored) (now table)
-        × ((longestRow ≤ length (now upper)) × ((longestRow ≤ length (now lower)) × Room counts (samplesOf g))))) ⌝ }
-    ensures { λ r. ⌜ r ≡ tallied (upTo (quarterShade (shadesOf shades (g .stored)) g (now (pixels .entry)) frame (usValues (now (masks .entry))) down right) (samplesOf g)) counts ⌝ }
-{
-    pixel::average_row(
-        pixels,
-        g,
-        masks,
-        pixel::moved(down / pixel::UNIT, g.rows, 0),
-        lower,
-    );
-    count_quarters(
-        pixels,
-        g,
-        frame,
-        masks,
-        down,
-        right,
-        shades,
-        table,
-        upper,
-        lower,
-        line,
-        counts,
-    )
-}
-
-// The counts with the levels of a masked frame, by two offsets in quarters. A whole shift takes one mask row for each line if a table is
-// filled; every other frame takes two.
+// The counts with the levels of a masked frame.
 fn count_masked(
-    pixels: &[u8],
-    g: Geometry,
-    frame: usize,
-    masks: &[u8],
-    down: usize,
-    right: usize,
-    shades: Shades,
-    table: &[u8],
-    upper: &mut [u32],
-    lower: &mut [u32],
-    line: &mut [u8],
-    counts: [u64; 256],
-) -> [u64; 256]
-    requires { ⌜ FrameReady (now pixels) g frame (now line)
-        × (MaskedBy (now pixels) g (now masks) down right
-        × (Shaded shades (g .stored) (now table)
-        × ((longestRow ≤ length (now upper)) × ((longestRow ≤ length (now lower)) × Room counts (samplesOf g))))) ⌝ }
-    ensures { λ r. ⌜ r ≡ tallied (upTo (quarterShade (shadesOf shades (g .stored)) g (now (pixels .entry)) frame (usValues (now (masks .entry))) down right) (samplesOf g)) counts ⌝ }
-{
-    if shades.filled {
-        if down % pixel::UNIT == 0 {
-            if right % pixel::UNIT == 0 {
-                return count_whole(
-                    pixels,
-                    g,
-                    frame,
-                    masks,
-                    down,
-                    right,
-                    shades,
-                    table,
-                    upper,
-                    line,
-                    counts,
-                );
-            }
-        }
-    }
-    count_blended(
-        pixels,
-        g,
-        frame,
-        masks,
-        down,
-        right,
-        shades,
-        table,
-        upper,
-        lower,
-        line,
-        counts,
-    )
-}
-
-// The same, by the moves of a shift.
-fn count_moved(
     pixels: &[u8],
     g: Geometry,
     frame: usize,
@@ -315,23 +156,19 @@ fn count_moved(
     line: &mut [u8],
     counts: [u64; 256],
 ) -> [u64; 256]
-    requires { ⌜ FrameReady (now pixels) g frame (now line)
-        × (Masks (now pixels) g (now masks)
-        × (ShortMoves moves × (Shaded shades (g .stored) (now table)
-        × ((longestRow ≤ length (now upper)) × ((longestRow ≤ length (now lower)) × Room counts (samplesOf g)))))) ⌝ }
-    ensures { λ r. ⌜ r ≡ tallied (upTo (maskedShade (shadesOf shades (g .stored)) g (now (pixels .entry)) frame (usValues (now (masks .entry))) moves) (samplesOf g)) counts ⌝ }
+    requires { ⌜ LinesReady (now pixels) g frame shades (now table) (now upper) (now lower) (now line)
+        × (Masks (now pixels) g (now masks) × (ShortMoves moves × Room counts (samplesOf g))) ⌝ }
+    ensures { λ r. ⌜ r
+        ≡ tallied (upTo (maskedShade (shadesOf shades (g .stored)) g (now (pixels .entry)) frame (usValues (now (masks .entry))) moves)
+        (samplesOf g)) counts ⌝ }
 {
-    let vertical = moves.vertical;
-    let horizontal = moves.horizontal;
-    let down = pixel::offset_of(vertical);
-    let right = pixel::offset_of(horizontal);
-    count_masked(
+    let way = lines::masked_way(pixels, g, masks, moves, shades.filled, lower);
+    count_lines(
+        way,
         pixels,
         g,
         frame,
         masks,
-        down,
-        right,
         shades,
         table,
         upper,
@@ -347,7 +184,8 @@ fn count_moved(
 fn told_here(bytes: &[u8], rows: &[u32], applies: Applying, keys: &[u32], answers: &[u32]) -> Told
     requires { ⌜ Table (now bytes) (now rows)
         × (ApplyingBelow (length (nodesOf (now bytes))) applies
-        × ((16 ≤ length (now keys)) × ((16 ≤ length (now answers)) × Known (nodesOf (now bytes)) (now keys) (now answers)))) ⌝ }
+        × ((mostMasks ≤ length (now keys))
+        × ((mostMasks ≤ length (now answers)) × Known (nodesOf (now bytes)) (now keys) (now answers)))) ⌝ }
     ensures { λ r. ⌜ ToldBy (nodesOf (now (bytes .entry))) applies r ⌝ }
 {
     let Applying::Item(j) = applies else {
@@ -457,7 +295,7 @@ struct Held {
 
 // Shades for a window that will have drawn the given number of cells. A table is filled only when that is at least its number of places.
 fn shades_by(window: Window, stored: usize, inverse: bool, spent: usize, table: &mut [u8]) -> Held
-    requires { ⌜ Drawable window × ((1 ≤ stored) × ((stored ≤ 16) × (length (now table) ≡ 131072))) ⌝ }
+    requires { ⌜ Drawable window × ((1 ≤ stored) × ((stored ≤ 16) × (length (now table) ≡ shadePlaces))) ⌝ }
     ensures { λ r. ⌜ (r .shades .window ≡ window) × IsHeld stored inverse r (now (table .exit)) ⌝ }
 {
     if window::power(stored + 1) <= spent {
@@ -493,7 +331,7 @@ fn shades_for(
 ) -> Held
     requires { ⌜ Drawable window
         × ((1 ≤ stored) × ((stored ≤ 16)
-        × ((length (now table) ≡ 131072) × ((cells ≤ 4294836225) × IsHeld stored inverse held (now table))))) ⌝ }
+        × ((length (now table) ≡ shadePlaces) × ((cells ≤ 4294836225) × IsHeld stored inverse held (now table))))) ⌝ }
     ensures { λ r. ⌜ (r .shades .window ≡ window) × IsHeld stored inverse r (now (table .exit)) ⌝ }
 {
     let last = held.shades;
@@ -528,19 +366,31 @@ fn count_frame(
 ) -> [u64; 256]
     requires { ⌜ Table (now bytes) (now rows)
         × (IsPixels (nodesOf (now bytes)) (c .p)
-        × (FrameReady (valueAt (nodesOf (now bytes)) (c .p)) (c .g) frame (now line)
-        × (MasksReady (nodesOf (now bytes)) (valueAt (nodesOf (now bytes)) (c .p)) (c .g) masking
-        × (Shaded shades (c .g .stored) (now table)
-        × ((longestRow ≤ length (now upper)) × ((longestRow ≤ length (now lower)) × Room counts (samplesOf (c .g)))))))) ⌝ }
-    ensures { λ r. ⌜ r ≡ tallied (upTo (shadeBy (nodesOf (now (bytes .entry))) (shadesOf shades (c .g .stored)) (c .g) (valueAt (nodesOf (now (bytes .entry))) (c .p)) frame masking) (samplesOf (c .g))) counts ⌝ }
+        × (LinesReady (valueAt (nodesOf (now bytes)) (c .p)) (c .g) frame shades (now table) (now upper) (now lower) (now line)
+        × (MasksReady (nodesOf (now bytes)) (valueAt (nodesOf (now bytes)) (c .p)) (c .g) masking × Room counts (samplesOf (c .g))))) ⌝ }
+    ensures { λ r. ⌜ r
+        ≡ tallied (upTo (shadeBy (nodesOf (now (bytes .entry))) (shadesOf shades (c .g .stored)) (c .g)
+        (valueAt (nodesOf (now (bytes .entry))) (c .p)) frame masking) (samplesOf (c .g))) counts ⌝ }
 {
     let g = c.g;
     let pixels = frame::value_part(bytes, rows, c.p);
     match masking {
-        Masking::Native => count_native(pixels, g, frame, shades, table, line, counts),
+        Masking::Native => count_lines(
+            Way::Native,
+            pixels,
+            g,
+            frame,
+            b"",
+            shades,
+            table,
+            upper,
+            lower,
+            line,
+            counts,
+        ),
         Masking::Average(k, m) => {
             let masks = node::value(bytes, rows, k);
-            count_moved(
+            count_masked(
                 pixels,
                 g,
                 frame,
@@ -556,7 +406,7 @@ fn count_frame(
         }
         Masking::One(t, m) => {
             let one = [(t % 256) as u8, (t / 256 % 256) as u8];
-            count_moved(
+            count_masked(
                 pixels,
                 g,
                 frame,
@@ -607,14 +457,10 @@ fn count_picture(
     lower: &mut [u32],
     line: &mut [u8],
 ) -> Counted
-    requires { ⌜ Table (now bytes) (now rows)
-        × (IsObject (now bytes) n
-        × (IsScene (nodesOf (now bytes)) c
-        × (IsPlan (nodesOf (now bytes)) frame (c .g .stored) own
-        × ((1 ≤ frame) × ((frame ≤ n)
+    requires { ⌜ PlanReady (now bytes) (now rows) n c frame own
         × (LineRooms (now table) (now upper) (now lower) (now line)
         × (IsHeld (c .g .stored) (c .inverse) (sofar .held) (now table)
-        × ((sofar .natives < 65536) × Room (sofar .counts) (imageSize (nodesOf (now bytes))))))))))) ⌝ }
+        × ((sofar .natives < 65536) × Room (sofar .counts) (imageSize (nodesOf (now bytes)))))) ⌝ }
     ensures { λ r. ⌜ (r .counts ≡ tallied (pictureOf (nodesOf (now (bytes .entry))) frame .samples) (sofar .counts))
         × ((r .natives ≡ cond (pictureOf (nodesOf (now (bytes .entry))) frame .masked) 0 1 + sofar .natives)
         × IsHeld (c .g .stored) (c .inverse) (r .held) (now (table .exit))) ⌝ }
@@ -687,15 +533,11 @@ fn count_frames(
     lower: &mut [u32],
     line: &mut [u8],
 ) -> Counted
-    requires { ⌜ Table (now bytes) (now rows)
-        × (IsObject (now bytes) n
-        × (IsScene (nodesOf (now bytes)) c
-        × (Along (nodesOf (now bytes)) (drop (a - 1) (frameItems (nodesOf (now bytes)))) start
-        × ((1 ≤ a) × ((a ≤ b)
-        × ((b ≤ n) × (LineRooms (now table) (now upper) (now lower) (now line)
-        × IsAhead (nodesOf (now bytes)) n (now which) (now keys) (now answers)))))))) ⌝ }
-    ensures { λ r. ⌜ (r .counts ≡ countsOf (levelsOf (nodesOf (now (bytes .entry))) a (b + 1 - a)))
-        × (r .natives ≡ nativesOf (nodesOf (now (bytes .entry))) a (b + 1 - a)) ⌝ }
+    requires { ⌜ RangeReady (now bytes) (now rows) n c start a b
+        × (LineRooms (now table) (now upper) (now lower) (now line)
+        × IsAhead (nodesOf (now bytes)) n (now which) (now keys) (now answers)) ⌝ }
+    ensures { λ r. ⌜ (r .counts ≡ countsOf (levelsOf (nodesOf (now (bytes .entry))) a (b - a + 1)))
+        × (r .natives ≡ nativesOf (nodesOf (now (bytes .entry))) a (b - a + 1)) ⌝ }
 {
     let mut items = start;
     let g = c.g;
@@ -737,17 +579,13 @@ fn count_all(
     lower: &mut [u32],
     line: &mut [u8],
 ) -> Counted
-    requires { ⌜ Table (now bytes) (now rows)
-        × (IsObject (now bytes) n
-        × (IsScene (nodesOf (now bytes)) c
-        × (Along (nodesOf (now bytes)) (drop (a - 1) (frameItems (nodesOf (now bytes)))) start
-        × ((1 ≤ a) × ((a ≤ b) × ((b ≤ n) × LineRooms (now table) (now upper) (now lower) (now line))))))) ⌝ }
-    ensures { λ r. ⌜ (r .counts ≡ countsOf (levelsOf (nodesOf (now (bytes .entry))) a (b + 1 - a)))
-        × (r .natives ≡ nativesOf (nodesOf (now (bytes .entry))) a (b + 1 - a)) ⌝ }
+    requires { ⌜ RangeReady (now bytes) (now rows) n c start a b × LineRooms (now table) (now upper) (now lower) (now line) ⌝ }
+    ensures { λ r. ⌜ (r .counts ≡ countsOf (levelsOf (nodesOf (now (bytes .entry))) a (b - a + 1)))
+        × (r .natives ≡ nativesOf (nodesOf (now (bytes .entry))) a (b - a + 1)) ⌝ }
 {
     let mut which: [u32; 65536] = [0; 65536];
-    let mut keys: [u32; 16] = [0; 16];
-    let mut answers: [u32; 16] = [0; 16];
+    let mut keys: [u32; MOST_MASKS] = [0; MOST_MASKS];
+    let mut answers: [u32; MOST_MASKS] = [0; MOST_MASKS];
     ranges::apply_all(bytes, rows, n, upper, &mut which);
     ranges::tell_all(bytes, rows, &mut keys, &mut answers);
     count_frames(
@@ -829,7 +667,7 @@ fn sample_frames(bytes: &[u8], rows: &[u32], n: usize, a: usize, b: usize) -> Nu
     requires { ⌜ Table (now bytes) (now rows) × (IsObject (now bytes) n × ((1 ≤ a) × ((a ≤ b) × (b ≤ n)))) ⌝ }
     ensures { λ r. ⌜ r ≡ framesSheet (nodesOf (now (bytes .entry))) a b ⌝ }
 {
-    let mut table: [u8; 131072] = [0; 131072];
+    let mut table: [u8; window::PLACES] = [0; window::PLACES];
     let mut upper: [u32; pixel::LONGEST] = [0; pixel::LONGEST];
     let mut lower: [u32; pixel::LONGEST] = [0; pixel::LONGEST];
     let mut line: [u8; 65535] = [0; 65535];
@@ -880,7 +718,8 @@ fn refused(answer: SheetAnswer) -> Sampled
 fn sheet_table(bytes: &[u8], rows: &[u32], first: usize, last: usize, count: usize) -> Sampled
     requires { ⌜ Table (now bytes) (now rows)
         × (((i : ℕ) → getD (now bytes) i 0 < 256) × (findingOf (nodesOf (now bytes)) ≡ finding.Accepted)) ⌝ }
-    ensures { λ r. ⌜ r ≡ withSheet (nodesOf (now (bytes .entry))) first last (acceptedAnswer (nodesOf (now (bytes .entry))) first last count) ⌝ }
+    ensures { λ r. ⌜ r
+        ≡ withSheet (nodesOf (now (bytes .entry))) first last (acceptedAnswer (nodesOf (now (bytes .entry))) first last count) ⌝ }
 {
     if last < first {
         return refused(SheetAnswer::WrongOrder);
@@ -901,25 +740,6 @@ fn sheet_table(bytes: &[u8], rows: &[u32], first: usize, last: usize, count: usi
     }
 }
 
-// Judges the data set afresh and counts the levels of frames `first` to `last`.
-pub fn sheet(bytes: &[u8], first: u64, last: u64, rows: &mut [u32]) -> Sampled
-    ensures { λ r. ⌜ Answers sampledFields r (sheetOf (now (bytes .entry)) first last (now (rows .entry))) ⌝ }
-    ensures { λ _. ⌜ now (rows .exit) ≡ bufferOf (readingOf (now (bytes .entry))) (now (rows .entry)) ⌝ }
-{
-    match conformance::judge(bytes, rows) {
-        JudgeAnswer::TooLarge => refused(SheetAnswer::TooLarge),
-        JudgeAnswer::Refused(code, offset) => refused(SheetAnswer::Refused(code, offset)),
-        JudgeAnswer::NoRoom => refused(SheetAnswer::NoRoom),
-        JudgeAnswer::Broken(count, rule, broken) => {
-            refused(SheetAnswer::Broken(count, rule, broken))
-        }
-        JudgeAnswer::Accepted(count) => {
-            let end = dataset::WIDTH * count;
-            sheet_table(bytes, &rows[..end], first as usize, last as usize, count)
-        }
-    }
-}
-
 // The number of frames, which an accepted object has.
 fn last_frame(bytes: &[u8], rows: &[u32]) -> usize
     requires { ⌜ Table (now bytes) (now rows) ⌝ }
@@ -931,9 +751,27 @@ fn last_frame(bytes: &[u8], rows: &[u32]) -> usize
     }
 }
 
-// The sheet of all frames, from 1 to the number of frames.
-pub fn whole(bytes: &[u8], rows: &mut [u32]) -> Sampled
-    ensures { λ r. ⌜ Answers sampledFields r (sheetOf (now (bytes .entry)) 1 (numberOr0 (framesOf (nodesOf (now (bytes .entry))))) (now (rows .entry))) ⌝ }
+// The same, for the frames of a span.
+fn sheet_span(bytes: &[u8], rows: &[u32], span: Span, count: usize) -> Sampled
+    requires { ⌜ Table (now bytes) (now rows)
+        × (((i : ℕ) → getD (now bytes) i 0 < 256) × (findingOf (nodesOf (now bytes)) ≡ finding.Accepted)) ⌝ }
+    ensures { λ r. ⌜ r
+        ≡ withSheet (nodesOf (now (bytes .entry))) (firstIn span) (lastIn (nodesOf (now (bytes .entry))) span)
+        (acceptedAnswer (nodesOf (now (bytes .entry))) (firstIn span) (lastIn (nodesOf (now (bytes .entry))) span) count) ⌝ }
+{
+    match span {
+        Span::All => {
+            let last = last_frame(bytes, rows);
+            sheet_table(bytes, rows, 1, last, count)
+        }
+        Span::From(first, last) => sheet_table(bytes, rows, first, last, count),
+    }
+}
+
+// Judges the data set afresh and counts the levels of the frames of a span.
+fn judged_sheet(bytes: &[u8], span: Span, rows: &mut [u32]) -> Sampled
+    ensures { λ r. ⌜ Answers sampledFields r
+        (sheetOf (now (bytes .entry)) (firstIn span) (lastIn (nodesOf (now (bytes .entry))) span) (now (rows .entry))) ⌝ }
     ensures { λ _. ⌜ now (rows .exit) ≡ bufferOf (readingOf (now (bytes .entry))) (now (rows .entry)) ⌝ }
 {
     match conformance::judge(bytes, rows) {
@@ -945,16 +783,30 @@ pub fn whole(bytes: &[u8], rows: &mut [u32]) -> Sampled
         }
         JudgeAnswer::Accepted(count) => {
             let end = dataset::WIDTH * count;
-            let table = &rows[..end];
-            let last = last_frame(bytes, table);
-            sheet_table(bytes, table, 1, last, count)
+            sheet_span(bytes, &rows[..end], span, count)
         }
     }
 }
 
-// Number k of a sheet, in the order named.
+// The sheet of frames `first` to `last`.
+pub fn sheet(bytes: &[u8], first: u64, last: u64, rows: &mut [u32]) -> Sampled
+    ensures { λ r. ⌜ Answers sampledFields r (sheetOf (now (bytes .entry)) first last (now (rows .entry))) ⌝ }
+    ensures { λ _. ⌜ now (rows .exit) ≡ bufferOf (readingOf (now (bytes .entry))) (now (rows .entry)) ⌝ }
+{
+    judged_sheet(bytes, Span::From(first as usize, last as usize), rows)
+}
+
+// The sheet of all frames, from 1 to the number of frames.
+pub fn whole(bytes: &[u8], rows: &mut [u32]) -> Sampled
+    ensures { λ r. ⌜ Answers sampledFields r
+        (sheetOf (now (bytes .entry)) 1 (numberOr0 (framesOf (nodesOf (now (bytes .entry))))) (now (rows .entry))) ⌝ }
+    ensures { λ _. ⌜ now (rows .exit) ≡ bufferOf (readingOf (now (bytes .entry))) (now (rows .entry)) ⌝ }
+{
+    judged_sheet(bytes, Span::All, rows)
+}
+
+// Number k of a sheet, in the order named; 0 beyond the last.
 pub fn number_at(t: Numbers, k: usize) -> u64
-    requires { ⌜ (length (t .counts) ≡ 256) × (k < 260) ⌝ }
     ensures { λ r. ⌜ r ≡ getD (numbersIn t) k 0 ⌝ }
 {
     let counts = t.counts;
@@ -970,7 +822,7 @@ pub fn number_at(t: Numbers, k: usize) -> u64
                 if k == 258 {
                     t.highest as u64
                 } else {
-                    t.sum as u64
+                    if k == 259 { t.sum as u64 } else { 0 }
                 }
             }
         }

@@ -18,7 +18,7 @@ fn print_line(n: u64) {
 fn print_numbers(t: Numbers)
     requires { ⌜ length (t .counts) ≡ 256 ⌝ }
 {
-    for k in 0..260 {
+    for k in 0..sheet::NUMBERS {
         print_line(sheet::number_at(t, k));
     }
 }

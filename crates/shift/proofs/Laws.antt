@@ -13,7 +13,8 @@ use Rattle.value.specs.declared.Signed.the-variants.{Plus, Minus, None}
 use Rattle.value.specs.Number.{isNumber}
 use Rattle.shift.specs.declared.Shift.{Shift}
 use Rattle.shift.specs.declared.Shift.the-variants as shift
-use Rattle.shift.specs.Shift.{floatAt, quartersOf, isShort, shortOf, movesOf, shortMovesOf, isShiftOf, itemShift, frameShift, isShift}
+use Rattle.shift.specs.Shift.{floatAt, quartersOf, isShort, movesOf, isShiftOf, itemShift, frameShift, isShift}
+use Rattle.shift.specs.Contracts.{shortOf, shortMovesOf}
 use Rattle.shift.specs.Shift.{isFrameShift}
 
 -- ---- One number

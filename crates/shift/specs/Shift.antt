@@ -41,29 +41,26 @@ largestShift = 64
 abbrev pub largestMove : ℕ
 largestMove = shiftUnit * largestShift
 
--- Up to that size, to either side.
-abbrev pub isShort : Signed → Bool
-isShort (Plus n) = leb n largestMove
-isShort (Minus n) = leb n largestMove
-isShort None = false
+-- Up to a size, to either side.
+abbrev pub isWithin : ℕ → Signed → Bool
+isWithin most (Plus n) = leb n most
+isWithin most (Minus n) = leb n most
+isWithin most None = false
 
--- Whole quarters, where they are short.
-unfoldable pub shortOf : Float → Signed
-shortOf x = cond (isShort (quartersOf x)) (quartersOf x) None
+abbrev pub isShort : Signed → Bool
+isShort n = isWithin largestMove n
 
 -- ---- No shift, the item's two numbers, or the frame's own two
 
--- How far a shift moves the mask, down and to the right, in quarters.
-unfoldable pub movesOf : Shift → Moves
-movesOf shift.None = record { vertical = Plus 0; horizontal = Plus 0 }
-movesOf (shift.Item v h) = record { vertical = quartersOf v; horizontal = quartersOf h }
-movesOf (shift.Frame v h) = record { vertical = quartersOf v; horizontal = quartersOf h }
+-- How far a shift moves the mask, down and to the right, by what each of its numbers comes to.
+abbrev pub movesBy : (Float → Signed) → Shift → Moves
+movesBy of shift.None = record { vertical = Plus 0; horizontal = Plus 0 }
+movesBy of (shift.Item v h) = record { vertical = of v; horizontal = of h }
+movesBy of (shift.Frame v h) = record { vertical = of v; horizontal = of h }
 
--- The same, only for short quarters.
-unfoldable pub shortMovesOf : Shift → Moves
-shortMovesOf shift.None = record { vertical = Plus 0; horizontal = Plus 0 }
-shortMovesOf (shift.Item v h) = record { vertical = shortOf v; horizontal = shortOf h }
-shortMovesOf (shift.Frame v h) = record { vertical = shortOf v; horizontal = shortOf h }
+-- In quarters.
+unfoldable pub movesOf : Shift → Moves
+movesOf s = movesBy quartersOf s
 
 -- Both numbers of a shift are whole quarters and short.
 unfoldable pub isShiftOf : Shift → Bool

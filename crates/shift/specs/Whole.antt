@@ -1,17 +1,16 @@
 -- Shifts of whole pixels, as they were before quarters, for the theorems that both agree (`specs/Agree`). No code follows these
 -- definitions.
 use Prim.Native.Nat.{ℕ, _*_, _/_, _%_}
-use mathlib.Core.Bool.{Bool, false, cond, _&&_}
+use mathlib.Core.Bool.{Bool, cond, _&&_}
 use mathlib.Core.List.{List}
 use lib.ListN.{length}
-use lib.Dec.{eqb, leb}
+use lib.Dec.{eqb}
 use lib.Ieee.{Float, nan, inf, fin, up, down}
 use Rattle.value.specs.declared.Signed.{Signed}
 use Rattle.value.specs.declared.Signed.the-variants.{Plus, Minus, None}
 use Rattle.shift.specs.declared.Shift.{Shift}
-use Rattle.shift.specs.declared.Shift.the-variants as shift
 use Rattle.shift.specs.declared.Moves.{Moves}
-use Rattle.shift.specs.Shift.{shiftUnit, largestShift, signedSize, itemShift}
+use Rattle.shift.specs.Shift.{shiftUnit, largestShift, isWithin, movesBy, signedSize, itemShift}
 
 -- The whole number that a float is, of any size; NaN, the infinities and fractions are none.
 unfoldable pub wholeFloat : Float → Signed
@@ -20,15 +19,11 @@ wholeFloat (inf s) = None
 wholeFloat (fin s m e) = cond (eqb (m * up e % down e) 0) (signedSize s (m * up e / down e)) None
 
 unfoldable pub wholeMovesOf : Shift → Moves
-wholeMovesOf shift.None = record { vertical = Plus 0; horizontal = Plus 0 }
-wholeMovesOf (shift.Item v h) = record { vertical = wholeFloat v; horizontal = wholeFloat h }
-wholeMovesOf (shift.Frame v h) = record { vertical = wholeFloat v; horizontal = wholeFloat h }
+wholeMovesOf s = movesBy wholeFloat s
 
 -- A short whole number.
 abbrev pub isShortWhole : Signed → Bool
-isShortWhole (Plus n) = leb n largestShift
-isShortWhole (Minus n) = leb n largestShift
-isShortWhole None = false
+isShortWhole n = isWithin largestShift n
 
 unfoldable pub isWholeShiftOf : Shift → Bool
 isWholeShiftOf s = isShortWhole (wholeMovesOf s .vertical) && isShortWhole (wholeMovesOf s .horizontal)

@@ -6,9 +6,8 @@ ghost use Prim.Native.Nat.{_+_, _≤_};
 ghost use lib.ListN.{length};
 ghost use lib.Ieee.{ofBits, binary32, lt};
 ghost use Rattle.value.specs.Contracts.{Below, SizeBelow};
-ghost use Rattle.value.specs.Number.{isNumber};
-ghost use Rattle.shift.specs.Shift.{floatAt, shortOf, shortMovesOf, isShiftOf, itemShift, frameShift, isShift, isFrameShift};
-ghost use Rattle.shift.specs.Contracts.{shortSize, tooFar, ShortMoves};
+ghost use Rattle.shift.specs.Shift.{floatAt, isShiftOf, itemShift, frameShift, isShift, isFrameShift};
+ghost use Rattle.shift.specs.Contracts.{shortSize, tooFar, ShortMoves, shortOf, shortMovesOf};
 use basics::u32_at;
 use value::Num;
 use value::Signed;
@@ -113,16 +112,6 @@ pub fn short_moves_of(s: Shift) -> Moves
     }
 }
 
-fn is_number(n: Signed) -> bool
-    ensures { λ r. ⌜ r ≡ isNumber n ⌝ }
-{
-    match n {
-        Signed::Plus(_) => true,
-        Signed::Minus(_) => true,
-        Signed::None => false,
-    }
-}
-
 // Both numbers of a shift are short.
 fn is_shift_of(s: Shift) -> bool
     ensures { λ r. ⌜ r ≡ isShiftOf s ⌝ }
@@ -130,7 +119,11 @@ fn is_shift_of(s: Shift) -> bool
     let m = short_moves_of(s);
     let v = m.vertical;
     let h = m.horizontal;
-    if is_number(v) { is_number(h) } else { false }
+    if value::is_number(v) {
+        value::is_number(h)
+    } else {
+        false
+    }
 }
 
 // A value of two FL numbers, as the item's.

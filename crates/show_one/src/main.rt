@@ -1,6 +1,6 @@
 // Draws one frame of the data set on standard input. Its one argument is the frame's number. It writes the image to standard output as a
 // PGM, with a comment that says whether the frame is masked; or the refusal, in a line.
-use argument::Decimal;
+use argument::FrameArgument;
 use display::ShowAnswer;
 use printing::print_broken;
 use printing::print_code;
@@ -68,23 +68,8 @@ fn show_input(frame: u64) {
 }
 
 fn main() {
-    if os::arg_count() != 2 {
-        io::write_all(1, b"frame: one number is wanted\n");
+    let FrameArgument::Number(frame) = argument::read_frame() else {
         return;
-    }
-    let mut text = [0u8; 20];
-    let n = os::arg(1, &mut text);
-    if os::errno() != 0 {
-        io::write_all(1, b"frame: at most 20 digits\n");
-        return;
-    }
-    match argument::read_decimal(&text[..n]) {
-        Decimal::Number(frame) => show_input(frame),
-        Decimal::TooLarge => {
-            io::write_all(1, b"frame: at most 18446744073709551615\n");
-        }
-        Decimal::NotNumber => {
-            io::write_all(1, b"frame: a number is wanted\n");
-        }
-    }
+    };
+    show_input(frame);
 }

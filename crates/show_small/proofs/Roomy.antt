@@ -23,10 +23,10 @@ use Rattle.display.specs.declared.ShowAnswer.{ShowAnswer}
 use Rattle.display.specs.declared.ShowAnswer.the-variants as shown
 use Rattle.display.specs.Show.{isFrameOf, imageSize, pictureOf, acceptedAnswer, answerFor, showOf, imageBy, imageOf, fieldsOf}
 use Rattle.display.proofs.ShowAnswer.{the-type}
-use Rattle.display.proofs.Judged.{after-judging}
+use Rattle.conformance.proofs.After.{after-judging}
 use Rattle.show_small.specs.declared.Sides.{Sides}
 use Rattle.show_small.specs.declared.Shown.{Shown}
-use Rattle.show_small.specs.Shown.{sidesOf, noSides, sized, shownOf, imageAfter}
+use Rattle.show_small.specs.Shown.{sidesOf, noSides, sized, showPrinted, imagePrinted}
 
 -- ---- The row buffer
 
@@ -40,7 +40,7 @@ module _ (s : List ℕ) (f : ℕ) (buffer image : List ℕ) (h : width * length 
   same-image = ap (imageBy (pictureOf (nodesOf s) f) image) same-answer
 
   pub roomy-shown : (a : ShowAnswer) (after : List ℕ) → a ≡ showOf s f buffer image → after ≡ imageOf s f buffer image
-      → (sized (nodesOf s) a ≡ shownOf s f image) × (after ≡ imageAfter s f image)
+      → (sized (nodesOf s) a ≡ showPrinted s f image) × (after ≡ imagePrinted s f image)
   roomy-shown a after e i = (ap (sized (nodesOf s)) (e ∙ same-answer), i ∙ same-image)
 
 -- ---- A frame that was drawn
@@ -101,7 +101,7 @@ shown-fits ns f image (judged.Refused code offset) = omega arith
 shown-fits ns f image judged.TooLarge = omega arith
 shown-fits ns f image judged.NoRoom = omega arith
 
-pub fits : (s : List ℕ) (f : ℕ) (image : List ℕ) (r : Shown) → r ≡ shownOf s f image → r .sides .height * r .sides .width ≤ length image
+pub fits : (s : List ℕ) (f : ℕ) (image : List ℕ) (r : Shown) → r ≡ showPrinted s f image → r .sides .height * r .sides .width ≤ length image
 unfolding showOf
 fits s f image r e =
     subst⁻¹ (λ (x : Shown). x .sides .height * x .sides .width ≤ length image) e

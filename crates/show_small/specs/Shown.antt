@@ -1,15 +1,15 @@
--- What is shown of a data set if the row buffer is large enough: the answer, the image's size and the image.
+-- What is shown of a data set if the row buffer is large enough, which is what the program prints: the answer, the image's size and the
+-- image.
 use Prim.Native.Nat.{ℕ}
 use mathlib.Core.List.{List}
 use Rattle.value.specs.Number.{numberOr0}
-use Rattle.dataset.specs.Answer.{flat}
-use Rattle.dataset.specs.Tree.{rowsOf}
 use Rattle.node.specs.Nodes.{Node, nodesOf, root}
 use Rattle.basics.specs.Tags
 use Rattle.element.specs.Elements.{usIn}
 use Rattle.display.specs.declared.ShowAnswer.{ShowAnswer}
 use Rattle.display.specs.declared.ShowAnswer.the-variants as shown
 use Rattle.display.specs.Show.{showOf, imageOf}
+use Rattle.judge_small.specs.Printed.{fullBuffer}
 use Rattle.show_small.specs.declared.Sides.{Sides}
 use Rattle.show_small.specs.declared.Shown.{Shown}
 
@@ -33,10 +33,9 @@ sidesFor ns shown.NoImageRoom = noSides
 abbrev pub sized : List Node → ShowAnswer → Shown
 sized ns a = record { answer = a; sides = sidesFor ns a }
 
--- With a row buffer that the rows exactly fill; a larger one gives the same.
-abbrev pub shownOf : List ℕ → ℕ → List ℕ → Shown
-shownOf s f image = sized (nodesOf s) (showOf s f (flat (rowsOf s)) image)
+abbrev pub showPrinted : List ℕ → ℕ → List ℕ → Shown
+showPrinted s f image = sized (nodesOf s) (showOf s f (fullBuffer s) image)
 
 -- The image buffer afterwards.
-abbrev pub imageAfter : List ℕ → ℕ → List ℕ → List ℕ
-imageAfter s f image = imageOf s f (flat (rowsOf s)) image
+abbrev pub imagePrinted : List ℕ → ℕ → List ℕ → List ℕ
+imagePrinted s f image = imageOf s f (fullBuffer s) image

@@ -9,7 +9,7 @@ ghost use lib.ListN.{length};
 ghost use Rattle.value.specs.Number.{numberOr0};
 ghost use Rattle.node.specs.Nodes.{nodesOf};
 ghost use Rattle.node.specs.Contracts.{Table};
-ghost use Rattle.show_small.specs.Shown.{sidesOf, shownOf, imageAfter};
+ghost use Rattle.show_small.specs.Shown.{sidesOf, showPrinted, imagePrinted};
 
 // The sides of a frame: its Columns and Rows.
 pub struct Sides {
@@ -47,8 +47,8 @@ pub fn sides_of(bytes: &[u8], rows: &[u32]) -> Sides
 // is stated for the callers that print it.
 pub fn show_small(bytes: &[u8], frame: u64, image: &mut [u8]) -> Shown
     requires { ⌜ length (now bytes) ≤ 65536 ⌝ }
-    ensures { λ r. ⌜ r ≡ shownOf (now (bytes .entry)) frame (now (image .entry)) ⌝ }
-    ensures { λ _. ⌜ now (image .exit) ≡ imageAfter (now (bytes .entry)) frame (now (image .entry)) ⌝ }
+    ensures { λ r. ⌜ r ≡ showPrinted (now (bytes .entry)) frame (now (image .entry)) ⌝ }
+    ensures { λ _. ⌜ now (image .exit) ≡ imagePrinted (now (bytes .entry)) frame (now (image .entry)) ⌝ }
     ensures { λ r. ⌜ r .sides .height * r .sides .width ≤ length (now (image .entry)) ⌝ }
 {
     let mut rows = row_buffer();

@@ -4,7 +4,7 @@
 -- give. Assumes nothing.
 use mathlib.Core.Path.{_≡_, refl, sym, ap, _∙_}
 use mathlib.Core.Bool.{Bool, true, false, cond, not, _&&_}
-use Prim.Native.Nat.{ℕ, zero, suc, _+_, _*_, _/_, _%_, _≤_, _<_}
+use Prim.Native.Nat.{ℕ, zero, suc, _+_, _-_, _*_, _/_, _%_, _≤_, _<_}
 use native.Mathlib.Omega.{arith}
 use native.Mathlib.Numerals.{add-one}
 use borrow.Author.Tests.{eqb-true, eq-eqb, le-leb}
@@ -52,7 +52,7 @@ module _ (k : ℕ) (v : Verdict) (small : Small v) (rest : List ℕ) where
   fields-back : (rows : RowCount) → v .rows ≡ rows → recorded (fieldBytes k v ++ rest) rows ≡ v
   fields-back rows e = simp (code-back, rule-back, frame-back, offset-back, sym e)
 
-mark-back : (k : ℕ) (v : Verdict) (rest : List ℕ) → sameBytes (take 3 (fieldBytes k v ++ rest)) mark ≡ true
+mark-back : (k : ℕ) (v : Verdict) (rest : List ℕ) → sameBytes (take versionPlace (fieldBytes k v ++ rest)) mark ≡ true
 unfolding fieldBytes sameBytes
 mark-back k v rest = refl
 
@@ -73,7 +73,8 @@ unfolding fieldBytes le
 old-length v = refl
 
 -- The mark, and at least five bytes.
-begins : (s : List ℕ) → openingSize ≤ length s → sameBytes (take 3 s) mark ≡ true → readOf s ≡ readVersion (leNumber 2 s versionPlace) s
+begins : (s : List ℕ) → openingSize ≤ length s → sameBytes (take versionPlace s) mark ≡ true
+    → readOf s ≡ readVersion (leNumber 2 s versionPlace) s
 unfolding readOf
 begins s h m = rw (le-leb openingSize (length s) h, m)
 
@@ -177,14 +178,15 @@ marked-first true r v e = (refl, e)
 marked-first false r v e = absurd (let z : _≡_ {A = ℕ} 0 1 = cc in omega arith)
 
 record Begun (s : List ℕ) (v : Verdict) : Type 0 where
-  marked : sameBytes (take 3 s) mark ≡ true
+  marked : sameBytes (take versionPlace s) mark ≡ true
   on : readVersion (leNumber 2 s versionPlace) s ≡ read.Read v
 
 begun : (s : List ℕ) (v : Verdict) → readOf s ≡ read.Read v → Begun s v
 unfolding readOf
 begun s v e =
-    let t = marked-first (leb openingSize (length s) && sameBytes (take 3 s) mark) (readVersion (leNumber 2 s versionPlace) s) v e in
-    record { marked = and-both (leb openingSize (length s)) (sameBytes (take 3 s) mark) (t .0) .1; on = t .1 }
+    let t = marked-first (leb openingSize (length s) && sameBytes (take versionPlace s) mark)
+    (readVersion (leNumber 2 s versionPlace) s) v e in
+    record { marked = and-both (leb openingSize (length s)) (sameBytes (take versionPlace s) mark) (t .0) .1; on = t .1 }
 
 read-possible : (s : List ℕ) (v : Verdict) → readOf s ≡ read.Read v → possible v ≡ true
 unfolding readVersion
@@ -221,11 +223,12 @@ le-number s b (suc n) p =
     rw (low, high, le-number s b n (p + 1))
 
 -- The bytes that both versions have are those of the version and the fields that they hold.
-field-bytes : (s : List ℕ) (rows : RowCount) → IsBytes s → take 3 s ≡ listing 3 s 0 → sameBytes (take 3 s) mark ≡ true
+field-bytes : (s : List ℕ) (rows : RowCount) → IsBytes s → take versionPlace s ≡ listing versionPlace s 0
+    → sameBytes (take versionPlace s) mark ≡ true
     → listing oldSize s 0 ≡ fieldBytes (leNumber 2 s versionPlace) (recorded s rows)
 unfolding fieldBytes
 field-bytes s rows b t m =
-    let first : listing 3 s 0 ≡ mark = sym t ∙ same-is (take 3 s) mark m in
+    let first : listing versionPlace s 0 ≡ mark = sym t ∙ same-is (take versionPlace s) mark m in
     rw (
       le-number s b 2 versionPlace,
       le-number s b 1 codePlace,
@@ -233,7 +236,7 @@ field-bytes s rows b t m =
       le-number s b 2 framePlace,
       le-number s b 4 offsetPlace,
     )
-    (ap (λ (l : List ℕ). l ++ listing 10 s 3) first)
+    (ap (λ (l : List ℕ). l ++ listing (oldSize - versionPlace) s versionPlace) first)
 
 write-back : (s : List ℕ) (v : Verdict) → IsBytes s → readOf s ≡ read.Read v → leNumber 2 s versionPlace ≡ version
     → (writable v ≡ true) × (s ≡ slipOf v)
@@ -244,7 +247,8 @@ write-back s v b e k =
     let w = well slipSize (Known n) s v (sym (as-new s k) ∙ g .on) in
     let all : s ≡ listing slipSize s 0 = listed s ∙ ap (λ (n : ℕ). listing n s 0) (w .long) in
     let same : listing oldSize s 0 ≡ fieldBytes version (recorded s (Known n)) =
-    field-bytes s (Known n) b (ap (λ (l : List ℕ). take 3 l) all) (g .marked) ∙ ap (λ (k : ℕ). fieldBytes k (recorded s (Known n))) k
+    field-bytes s (Known n) b (ap (λ (l : List ℕ). take versionPlace l) all) (g .marked)
+    ∙ ap (λ (k : ℕ). fieldBytes k (recorded s (Known n))) k
     in
     let known : isKnown (v .rows) ≡ true = ap (λ (v : Verdict). isKnown (v .rows)) (sym (w .gives)) in (
       rw (w .can, known),
@@ -262,7 +266,7 @@ old-back s v b e k =
     let all : s ≡ listing oldSize s 0 = listed s ∙ ap (λ (n : ℕ). listing n s 0) (w .long) in (
       ap (λ (v : Verdict). v .rows) (sym (w .gives)),
       all
-          ∙ field-bytes s NotKnown b (ap (λ (l : List ℕ). take 3 l) all) (g .marked)
+          ∙ field-bytes s NotKnown b (ap (λ (l : List ℕ). take versionPlace l) all) (g .marked)
           ∙ ap (λ (k : ℕ). fieldBytes k (recorded s NotKnown)) k
           ∙ ap oldSlipOf (w .gives),
     )

@@ -30,7 +30,7 @@ version = 2
 abbrev pub oldVersion : ℕ
 oldVersion = 1
 
--- The offset of each field, and how long a slip of each version is.
+-- The offset of each field, and how long a slip of each version is. The mark is what comes before the version.
 abbrev pub versionPlace : ℕ
 versionPlace = 3
 
@@ -103,7 +103,7 @@ readVersion k s =
 
 unfoldable pub readOf : List ℕ → SlipAnswer
 readOf s =
-    cond (not (leb openingSize (length s) && sameBytes (take 3 s) mark)) (read.Refused 12)
+    cond (not (leb openingSize (length s) && sameBytes (take versionPlace s) mark)) (read.Refused 12)
     (readVersion (leNumber 2 s versionPlace) s)
 
 -- The paper's numbers for each case: the code, and with code 0 the verdict read.

@@ -57,10 +57,10 @@ pub enum WriteAnswer {
 
 // Whether a slip starts with "XAV".
 fn is_marked(s: &[u8]) -> bool
-    requires { ⌜ 3 ≤ length (now s) ⌝ }
-    ensures { λ r. ⌜ r ≡ sameBytes (take 3 (now (s .entry))) mark ⌝ }
+    requires { ⌜ versionPlace ≤ length (now s) ⌝ }
+    ensures { λ r. ⌜ r ≡ sameBytes (take versionPlace (now (s .entry))) mark ⌝ }
 {
-    same_bytes(&s[..3], b"XAV")
+    same_bytes(&s[..VERSION_AT], b"XAV")
 }
 
 // The fields of a slip, unchecked, with a row count.

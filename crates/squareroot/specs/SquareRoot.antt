@@ -1,4 +1,5 @@
--- The square root derivation of source document 002, 14 bits to 8, with the desk's own scale (document 02, Q-8).
+-- The square root derivation of source document 002, 14 bits to 8, scaled so that p stands for p × p / 4 (document 02,
+-- Q-8).
 use Prim.Native.Nat.{ℕ, zero, suc, _+_, _*_, _/_, _%_}
 use mathlib.Core.Bool.{cond}
 use lib.Dec.{leb}

@@ -1,4 +1,4 @@
-// The square root derivation of source document 002, 14 bits to 8, with the desk's own scale.
+// The square root derivation of source document 002, 14 bits to 8, scaled so that p stands for p × p / 4.
 ghost use mathlib.Core.Path.{_≡_};
 ghost use Rattle.squareroot.specs.SquareRoot.{rootLevel, rootEntry};
 

@@ -1,13 +1,13 @@
 -- What an answer says once it is taken apart, and the steps' walks one member or one pair at a time.
 use mathlib.Core.Path.{_≡_, refl, sym, ap, _∙_, subst}
-use Prim.Native.Nat.{ℕ, zero, suc, _+_, _-_, _*_, _/_, _%_, _≤_, _<_}
+use Prim.Native.Nat.{ℕ, zero, suc, _+_, _-_, _*_, _/_, _≤_, _<_}
 use native.Mathlib.Omega.{arith}
-use mathlib.Core.List.{List, []}
+use mathlib.Core.List.{List}
 use mathlib.Core.Bool.{Bool, true, false, cond, _&&_}
 use mathlib.Core.Option.{Option, none, some}
 use lib.ListN.{length, getD, drop}
 use lib.Dec.{eqb, leb}
-use borrow.Author.Tests.{eq-eqb, ne-eqb, eqb-true, le-leb, lt-leb}
+use borrow.Author.Tests.{eq-eqb, ne-eqb, le-leb, lt-leb}
 use Rattle.value.specs.declared.Num.{Num}
 use Rattle.value.specs.declared.Num.the-variants.{Is, None}
 use Rattle.value.specs.declared.Signed.{Signed}
@@ -15,9 +15,7 @@ use Rattle.value.specs.declared.Signed.the-variants as signed
 use Rattle.value.specs.Number.{usValues, isNumber}
 use Rattle.value.specs.Contracts.{SizeBelow}
 use Rattle.value.proofs.Laws.{usValues-length, values-end, pair-at}
-use Rattle.basics.proofs.Tests.{and-both}
-use Rattle.basics.specs.Vr.{SQ, US}
-use Rattle.basics.proofs.Tests.{and-both}
+use Rattle.basics.specs.Vr.{SQ}
 use Rattle.node.specs.Nodes.{Node, nodeAt, nextNode, members, root, inside}
 use Rattle.node.specs.Find.{find, ofVr, andThen}
 use Rattle.node.proofs.Walks.{members-end, members-next}
@@ -26,16 +24,16 @@ use Rattle.window.specs.declared.Window.{Window}
 use Rattle.pixel.specs.declared.Geometry.{Geometry}
 use Rattle.pixel.specs.Pixel.{isFrame}
 use Rattle.basics.specs.Tags
-use Rattle.element.specs.Elements.{first, valueAt, insideOf, itemsIn}
+use Rattle.element.specs.Elements.{first, insideOf, itemsIn}
 use Rattle.element.specs.Frames.{idIn, maskItems}
 use Rattle.steps.specs.declared.Applying.{Applying}
 use Rattle.steps.specs.declared.Applying.the-variants.{Item, Nothing}
 use Rattle.steps.specs.declared.Found.{Found}
 use Rattle.steps.specs.declared.Found.the-variants as found
 use Rattle.steps.specs.Given.{check, then}
-use Rattle.steps.specs.Steps.{groupFor, inPairs, rangeHolds, firstHolding, onMask, applyingTo, naming, ownIn, shiftFrom, shiftFor}
+use Rattle.steps.specs.Steps.{groupFor, isInPairs, rangeHolds, firstHolding, onMask, applyingTo, naming, ownIn, shiftFrom, shiftFor}
 use Rattle.steps.specs.Steps.{Mask, geometryOf, pixelsOf, windowFor, inverseOf, maskFor, pictureBy, stepsOf}
-use Rattle.steps.specs.Contracts.{FoundBelow, hasPairs, ifRead, GivesItem, signedOf}
+use Rattle.steps.specs.Contracts.{FoundBelow, ifRead, GivesItem, signedOf}
 
 -- ---- Answers
 
@@ -78,17 +76,17 @@ module _ (ns : List Node) (at end : ℕ) where
 -- ---- Values of a US, in pairs
 
 module _ (f : ℕ) (v : List ℕ) (k : ℕ) where
-  pub pairs-end : 2 * k ≡ length v / 2 → inPairs f (drop (2 * k) (usValues v)) ≡ false
-  unfolding inPairs
+  pub pairs-end : 2 * k ≡ length v / 2 → isInPairs f (drop (2 * k) (usValues v)) ≡ false
+  unfolding isInPairs
   pairs-end e = rw (values-end v (2 * k) e)
 
   module _ (a b : ℕ) (ea : a ≡ getD (usValues v) (2 * k) 0) (eb : b ≡ getD (usValues v) (2 * k + 1) 0) (h : 2 * k + 1 < length v / 2) where
-    pub pairs-here : (leb a f && leb f b) ≡ true → inPairs f (drop (2 * k) (usValues v)) ≡ true
-    unfolding inPairs
+    pub pairs-here : (leb a f && leb f b) ≡ true → isInPairs f (drop (2 * k) (usValues v)) ≡ true
+    unfolding isInPairs
     pairs-here q = rw (pair-at v k a b ea eb h, q)
 
-    pub pairs-next : (leb a f && leb f b) ≡ false → inPairs f (drop (2 * k) (usValues v)) ≡ inPairs f (drop (2 * (k + 1)) (usValues v))
-    unfolding inPairs
+    pub pairs-next : (leb a f && leb f b) ≡ false → isInPairs f (drop (2 * k) (usValues v)) ≡ isInPairs f (drop (2 * (k + 1)) (usValues v))
+    unfolding isInPairs
     pairs-next q = rw (pair-at v k a b ea eb h, q)
 
 pub values-some : (v : List ℕ) → 2 ≤ length v → leb 1 (length (usValues v)) ≡ true
@@ -149,12 +147,6 @@ module _ (ns : List Node) (f : ℕ) where
 
   pub found-given : GivesItem ns f → (r : Applying) → ifRead ns f r ≡ firstHolding ns f (maskItems ns) → applyingTo ns f ≡ some r
   found-given g r h = by-found (applyingTo ns f) r g (among-items g ∙ sym h)
-
--- A node that holds pairs holds whole ones.
-pub pairs-whole : (ns : List Node) (i : ℕ) → hasPairs ns i ≡ true → length (valueAt ns i) % 4 ≡ 0
-pairs-whole ns i e =
-    let pairs = and-both (eqb (nodeAt ns i .vr) US) (leb 4 (length (valueAt ns i)) && eqb (length (valueAt ns i) % 4) 0) e .1 in
-    eqb-true (length (valueAt ns i) % 4) 0 (and-both (leb 4 (length (valueAt ns i))) (eqb (length (valueAt ns i) % 4) 0) pairs .1)
 
 module _ (ns : List Node) (id at to : ℕ) where
   pub naming-end : to ≤ at → naming ns id (members ns at to) ≡ some None

@@ -1,8 +1,7 @@
 -- What the code's answers mean: each is what a definition of the steps gives, or `Lacks` if that is `none`.
-use Prim.Native.Nat.{ℕ, _%_, _≤_, _<_}
+use Prim.Native.Nat.{ℕ, _≤_, _<_}
 use lib.ListN.{length}
-use lib.Dec.{eqb, leb}
-use mathlib.Core.Bool.{Bool, true, false, cond, _&&_}
+use mathlib.Core.Bool.{Bool, true, false, cond}
 use mathlib.Core.List.{List}
 use mathlib.Core.Option.{Option, none, some}
 use mathlib.Core.Path.{_≡_}
@@ -12,12 +11,12 @@ use Rattle.value.specs.declared.Signed.{Signed}
 use Rattle.value.specs.declared.Signed.the-variants as signed
 use Rattle.value.specs.Text.{ascii}
 use Rattle.value.specs.Number.{usValues}
+use Rattle.value.specs.Contracts.{Below}
 use Rattle.shift.specs.declared.Shift.{Shift}
-use Rattle.node.specs.Nodes.{Node, nodeAt}
-use Rattle.basics.specs.Vr.{US}
+use Rattle.node.specs.Nodes.{Node}
 use Rattle.basics.specs.Tags
 use Rattle.element.specs.Elements.{valueAt}
-use Rattle.element.specs.Frames.{operationIs}
+use Rattle.element.specs.Frames.{frameItem, operationIs}
 use Rattle.pixel.specs.declared.Geometry.{Geometry}
 use Rattle.window.specs.declared.Window.{Window}
 use Rattle.steps.specs.Given.{then}
@@ -37,8 +36,10 @@ use Rattle.steps.specs.declared.Sized.{Sized}
 use Rattle.steps.specs.declared.Sized.the-variants as sized
 use Rattle.steps.specs.declared.Windowed.{Windowed}
 use Rattle.steps.specs.declared.Windowed.the-variants as windowed
-use Rattle.steps.specs.declared.Inverse.{Inverse}
-use Rattle.steps.specs.declared.Inverse.the-variants as inverse
+
+-- The item of frame f, or none.
+abbrev pub ItemOf : List Node → ℕ → Num → Type 0
+ItemOf ns f item = (item ≡ frameItem ns f) × Below (length ns) item
 
 -- A number that may be absent.
 abbrev pub foundOf : Found → Option Num
@@ -78,10 +79,6 @@ abbrev pub holdsOf : Holds → Option Bool
 holdsOf holds.Yes = some true
 holdsOf holds.No = some false
 holdsOf holds.Lacks = none
-
--- Node i holds pairs of numbers, at least one.
-abbrev pub hasPairs : List Node → ℕ → Bool
-hasPairs ns i = eqb (nodeAt ns i .vr) US && (leb 4 (length (valueAt ns i)) && eqb (length (valueAt ns i) % 4) 0)
 
 -- What the search for a mask item found: none, or an item that applies if its range can be read.
 abbrev pub ifRead : List Node → ℕ → Applying → Option Applying
@@ -139,8 +136,3 @@ windowedOf windowed.Lacks = none
 -- The window of a frame that has no VOI group of its own.
 abbrev pub sharedWindow : List Node → ℕ → Option Window
 sharedWindow ns stored = then (orShared ns Tags.FrameVOILUTSequence num.None) (windowOn ns stored)
-
-abbrev pub inverseSaid : Inverse → Option Bool
-inverseSaid inverse.Yes = some true
-inverseSaid inverse.No = some false
-inverseSaid inverse.Lacks = none

@@ -42,7 +42,7 @@ use Rattle.shift.specs.Shift.{itemShift, frameShift, movesOf}
 use Rattle.node.specs.Nodes.{Node, nodeAt, root, inside}
 use Rattle.node.specs.Find.{find, findVr}
 use Rattle.basics.specs.Tags
-use Rattle.element.specs.Elements.{valueAt, usIn, theItem, functionIn}
+use Rattle.element.specs.Elements.{valueAt, usIn, theItem, hasPairs, functionIn}
 use Rattle.element.specs.Frames.{framesOf, sharedItem, frameItem, idIn, operationIs}
 use Rattle.pixel.specs.declared.Geometry.{Geometry}
 use Rattle.pixel.specs.Pixel.{samplesOf, isFrame, sampleAt, areInside, blendedAt}
@@ -85,16 +85,14 @@ groupFor ns f tag = need (frameItem ns f) (λ i. orShared ns tag (find ns tag (i
 
 -- ---- Step 2. The first mask item whose range holds f (no range: all) applies.
 
-unfoldable pub inPairs : ℕ → List ℕ → Bool
-inPairs f [] = false
-inPairs f (a ∷ []) = false
-inPairs f (a ∷ b ∷ l) = (leb a f && leb f b) || inPairs f l
+unfoldable pub isInPairs : ℕ → List ℕ → Bool
+isInPairs f [] = false
+isInPairs f (a ∷ []) = false
+isInPairs f (a ∷ b ∷ l) = (leb a f && leb f b) || isInPairs f l
 
 abbrev pub rangeHas : List Node → ℕ → Num → Option Bool
 rangeHas ns f None = some true
-rangeHas ns f (Is r) =
-    check (eqb (nodeAt ns r .vr) US && (leb 4 (length (valueAt ns r)) && eqb (length (valueAt ns r) % 4) 0))
-    (some (inPairs f (usValues (valueAt ns r))))
+rangeHas ns f (Is r) = check (hasPairs ns r) (some (isInPairs f (usValues (valueAt ns r))))
 
 unfoldable pub rangeHolds : List Node → ℕ → ℕ → Option Bool
 rangeHolds ns f j = rangeHas ns f (find ns Tags.ApplicableFrameRange (inside ns j))

@@ -1,7 +1,7 @@
 // The drawing steps, up to what is needed before the samples are drawn. Each answer says what its step gives, or that the step lacks
 // something.
 ghost use mathlib.Core.Path.{_≡_};
-ghost use Prim.Native.Nat.{_-_, _/_, _%_, _≤_, _<_};
+ghost use Prim.Native.Nat.{_/_, _%_, _≤_, _<_};
 ghost use mathlib.Core.Bool.{cond, _&&_};
 ghost use mathlib.Core.Option.{some};
 ghost use lib.ListN.{length};
@@ -9,20 +9,20 @@ ghost use lib.Dec.{eqb, leb};
 ghost use Rattle.value.specs.declared.Num.the-variants as num;
 ghost use Rattle.value.specs.Text.{ascii, valueOf, isSingle};
 ghost use Rattle.value.specs.Words.{isWord, isFunction};
-ghost use Rattle.value.specs.Number.{usValues, isNumber, decimalOf};
+ghost use Rattle.value.specs.Number.{usValues, ssLimit, isNumber, decimalOf};
 ghost use Rattle.value.specs.Contracts.{Below, SizeBelow};
 ghost use Rattle.node.specs.Nodes.{nodesOf, members, inside};
 ghost use Rattle.node.specs.Contracts.{Table};
 ghost use Rattle.basics.specs.Tags.{FramePixelShiftSequence};
 ghost use Rattle.element.specs.Frames.{framesOf, frameItem};
 ghost use Rattle.steps.specs.Given.{need, check, then};
-ghost use Rattle.steps.specs.Steps.{orShared, groupFor, inPairs, rangeHas, rangeHolds, firstHolding, applyingTo, averageFrames};
+ghost use Rattle.steps.specs.Steps.{orShared, groupFor, isInPairs, rangeHas, rangeHolds, firstHolding, applyingTo, averageFrames};
 ghost use Rattle.steps.specs.Steps.{offsetAt, offsetOf, tidFrame, naming, ownIn, itemShiftAt, shiftFrom, shiftFor, geometryOf};
 ghost use Rattle.steps.specs.Steps.{pixelsOf, windowIn, windowOn, windowFor, inverseOf};
-ghost use Rattle.steps.specs.Contracts.{foundOf, FoundBelow, holdsOf, hasPairs, ifRead, GivesItem, ApplyingBelow, valueFound};
+ghost use Rattle.steps.specs.Contracts.{foundOf, FoundBelow, holdsOf, ifRead, GivesItem, ApplyingBelow, valueFound};
 ghost use Rattle.steps.specs.Contracts.{framesIn};
-ghost use Rattle.steps.specs.Contracts.{signedOf, shiftsOf, sizedOf, SizedSmall, windowedOf, inverseSaid, sharedNaming, sharedWindow};
-ghost use Rattle.steps.specs.Contracts.{IsShared, operationOf, IsTold};
+ghost use Rattle.steps.specs.Contracts.{signedOf, shiftsOf, sizedOf, SizedSmall, windowedOf, sharedNaming, sharedWindow};
+ghost use Rattle.steps.specs.Contracts.{ItemOf, IsShared, operationOf, IsTold};
 use basics::tags;
 use basics::vrs;
 use pixel::Geometry;
@@ -84,13 +84,6 @@ pub enum Windowed {
     Lacks,
 }
 
-// Whether the image is inverted.
-pub enum Inverse {
-    Yes,
-    No,
-    Lacks,
-}
-
 // ---- Functional groups of a frame
 
 // The node of item f of the per-frame functional groups.
@@ -125,7 +118,7 @@ fn shared_group(bytes: &[u8], rows: &[u32], tag: usize) -> Found
 {
     match element::shared_item(bytes, rows) {
         Num::None => Found::Lacks,
-        Num::Is(s) => match element::find_item(bytes, rows, s, tag) {
+        Num::Is(s) => match node::find_in_item(bytes, rows, s, tag) {
             Num::None => Found::Absent,
             Num::Is(g) => Found::At(g),
         },
@@ -135,13 +128,13 @@ fn shared_group(bytes: &[u8], rows: &[u32], tag: usize) -> Found
 // A frame's functional group of the tag: that in its item, otherwise the shared one.
 pub fn group_for(bytes: &[u8], rows: &[u32], frame: usize, item: Num, tag: usize) -> Found
     requires { ⌜ Table (now bytes) (now rows)
-        × ((item ≡ frameItem (nodesOf (now bytes)) frame) × Below (length (nodesOf (now bytes))) item) ⌝ }
+        × ItemOf (nodesOf (now bytes)) frame item ⌝ }
     ensures { λ r. ⌜ foundOf r ≡ groupFor (nodesOf (now (bytes .entry))) frame tag ⌝ }
     ensures { λ r. ⌜ FoundBelow (length (nodesOf (now (bytes .entry)))) r ⌝ }
 {
     match item {
         Num::None => Found::Lacks,
-        Num::Is(i) => match element::find_item(bytes, rows, i, tag) {
+        Num::Is(i) => match node::find_in_item(bytes, rows, i, tag) {
             Num::None => shared_group(bytes, rows, tag),
             Num::Is(g) => Found::At(g),
         },
@@ -151,22 +144,22 @@ pub fn group_for(bytes: &[u8], rows: &[u32], frame: usize, item: Num, tag: usize
 // ---- Step 2: the mask item that applies
 
 // Whether a frame is between a first and a last one.
-fn in_pair(frame: usize, a: usize, b: usize) -> bool
+fn is_in_pair(frame: usize, a: usize, b: usize) -> bool
     ensures { λ r. ⌜ r ≡ (leb a frame && leb frame b) ⌝ }
 {
     if a <= frame { frame <= b } else { false }
 }
 
-fn in_pairs(v: &[u8], frame: usize) -> bool
+fn is_in_pairs(v: &[u8], frame: usize) -> bool
     requires { ⌜ length (now v) % 4 ≡ 0 ⌝ }
-    ensures { λ r. ⌜ r ≡ inPairs frame (usValues (now (v .entry))) ⌝ }
+    ensures { λ r. ⌜ r ≡ isInPairs frame (usValues (now (v .entry))) ⌝ }
 {
     let pairs = v.len() / 4;
     let mut k: usize = 0;
     while k < pairs {
         let first = value::us_value(v, 2 * k);
         let last = value::us_value(v, 2 * k + 1);
-        if in_pair(frame, first, last) {
+        if is_in_pair(frame, first, last) {
             return true;
         } else {
             k += 1;
@@ -175,30 +168,13 @@ fn in_pairs(v: &[u8], frame: usize) -> bool
     false
 }
 
-// Whether node i holds pairs of numbers, at least one.
-pub fn has_pairs(bytes: &[u8], rows: &[u32], i: usize) -> bool
-    requires { ⌜ Table (now bytes) (now rows) × (i < length (nodesOf (now bytes))) ⌝ }
-    ensures { λ r. ⌜ r ≡ hasPairs (nodesOf (now (bytes .entry))) i ⌝ }
-{
-    if node::vr(bytes, rows, i) == vrs::US {
-        let v = node::value(bytes, rows, i);
-        if 4 <= v.len() {
-            v.len() % 4 == 0
-        } else {
-            false
-        }
-    } else {
-        false
-    }
-}
-
 // Whether the range at node i holds a frame.
 fn range_at(bytes: &[u8], rows: &[u32], frame: usize, i: usize) -> Holds
     requires { ⌜ Table (now bytes) (now rows) × (i < length (nodesOf (now bytes))) ⌝ }
     ensures { λ r. ⌜ holdsOf r ≡ rangeHas (nodesOf (now (bytes .entry))) frame (num.Is i) ⌝ }
 {
-    if has_pairs(bytes, rows, i) {
-        if in_pairs(node::value(bytes, rows, i), frame) {
+    if element::has_pairs(bytes, rows, i) {
+        if is_in_pairs(node::value(bytes, rows, i), frame) {
             Holds::Yes
         } else {
             Holds::No
@@ -213,7 +189,7 @@ pub fn range_holds(bytes: &[u8], rows: &[u32], frame: usize, j: usize) -> Holds
     requires { ⌜ Table (now bytes) (now rows) × (j < length (nodesOf (now bytes))) ⌝ }
     ensures { λ r. ⌜ holdsOf r ≡ rangeHolds (nodesOf (now (bytes .entry))) frame j ⌝ }
 {
-    match element::find_item(bytes, rows, j, tags::APPLICABLE_FRAME_RANGE) {
+    match node::find_in_item(bytes, rows, j, tags::APPLICABLE_FRAME_RANGE) {
         Num::None => Holds::Yes,
         Num::Is(i) => range_at(bytes, rows, frame, i),
     }
@@ -298,7 +274,7 @@ pub fn average_element(bytes: &[u8], rows: &[u32], j: usize) -> Num
 fn offset_at(bytes: &[u8], rows: &[u32], k: usize) -> Signed
     requires { ⌜ Table (now bytes) (now rows) × (k < length (nodesOf (now bytes))) ⌝ }
     ensures { λ r. ⌜ signedOf r ≡ offsetAt (nodesOf (now (bytes .entry))) (num.Is k) ⌝ }
-    ensures { λ r. ⌜ SizeBelow 32769 r ⌝ }
+    ensures { λ r. ⌜ SizeBelow ssLimit r ⌝ }
 {
     if node::vr(bytes, rows, k) == vrs::SS {
         value::ss_of(node::value(bytes, rows, k))
@@ -311,9 +287,9 @@ fn offset_at(bytes: &[u8], rows: &[u32], k: usize) -> Signed
 fn offset_of(bytes: &[u8], rows: &[u32], j: usize) -> Signed
     requires { ⌜ Table (now bytes) (now rows) × (j < length (nodesOf (now bytes))) ⌝ }
     ensures { λ r. ⌜ signedOf r ≡ offsetOf (nodesOf (now (bytes .entry))) j ⌝ }
-    ensures { λ r. ⌜ SizeBelow 32769 r ⌝ }
+    ensures { λ r. ⌜ SizeBelow ssLimit r ⌝ }
 {
-    match element::find_item(bytes, rows, j, tags::TID_OFFSET) {
+    match node::find_in_item(bytes, rows, j, tags::TID_OFFSET) {
         Num::None => Signed::Plus(1),
         Num::Is(k) => offset_at(bytes, rows, k),
     }
@@ -335,13 +311,6 @@ fn among_frames(x: usize, frames: Num) -> Found
     }
 }
 
-// a - b, or 0 if b is larger.
-fn less(a: usize, b: usize) -> usize
-    ensures { λ r. ⌜ r ≡ a - b ⌝ }
-{
-    if b <= a { a - b } else { 0 }
-}
-
 // The mask frame that a TID mask item gives a frame; `frames` is Number of Frames.
 pub fn tid_frame(bytes: &[u8], rows: &[u32], frame: usize, j: usize, frames: Num) -> Found
     requires { ⌜ Table (now bytes) (now rows)
@@ -349,7 +318,7 @@ pub fn tid_frame(bytes: &[u8], rows: &[u32], frame: usize, j: usize, frames: Num
     ensures { λ r. ⌜ foundOf r ≡ tidFrame (nodesOf (now (bytes .entry))) frame j ⌝ }
 {
     match offset_of(bytes, rows, j) {
-        Signed::Plus(d) => among_frames(less(frame, d), frames),
+        Signed::Plus(d) => among_frames(basics::less(frame, d), frames),
         Signed::Minus(d) => among_frames(frame + d, frames),
         Signed::None => Found::Lacks,
     }
@@ -438,7 +407,7 @@ fn item_shift_in(bytes: &[u8], rows: &[u32], j: usize) -> Shifts
     requires { ⌜ Table (now bytes) (now rows) × (j < length (nodesOf (now bytes))) ⌝ }
     ensures { λ r. ⌜ shiftsOf r ≡ shiftFrom (nodesOf (now (bytes .entry))) j num.None ⌝ }
 {
-    match element::find_item(bytes, rows, j, tags::MASK_SUB_PIXEL_SHIFT) {
+    match node::find_in_item(bytes, rows, j, tags::MASK_SUB_PIXEL_SHIFT) {
         Num::None => Shifts::Is(Shift::None),
         Num::Is(k) => item_shift_at(bytes, rows, k),
     }
@@ -506,14 +475,14 @@ pub fn nothing_told() -> Told {
 fn naming_for(bytes: &[u8], rows: &[u32], frame: usize, item: Num, j: usize, shared: Found) -> Found
     requires { ⌜ Table (now bytes) (now rows)
         × ((j < length (nodesOf (now bytes)))
-        × ((item ≡ frameItem (nodesOf (now bytes)) frame)
-        × (Below (length (nodesOf (now bytes))) item × IsShared (nodesOf (now bytes)) j shared))) ⌝ }
+        × (ItemOf (nodesOf (now bytes)) frame item
+        × IsShared (nodesOf (now bytes)) j shared)) ⌝ }
     ensures { λ r. ⌜ foundOf r ≡ then (groupFor (nodesOf (now (bytes .entry))) frame FramePixelShiftSequence) (ownIn (nodesOf (now (bytes .entry))) j) ⌝ }
     ensures { λ r. ⌜ FoundBelow (length (nodesOf (now (bytes .entry)))) r ⌝ }
 {
     match item {
         Num::None => Found::Lacks,
-        Num::Is(i) => match element::find_item(bytes, rows, i, tags::FRAME_PIXEL_SHIFT_SEQUENCE) {
+        Num::Is(i) => match node::find_in_item(bytes, rows, i, tags::FRAME_PIXEL_SHIFT_SEQUENCE) {
             Num::None => shared,
             Num::Is(g) => own_in(bytes, rows, j, g),
         },
@@ -531,8 +500,8 @@ pub fn shift_by(
 ) -> Shifts
     requires { ⌜ Table (now bytes) (now rows)
         × ((j < length (nodesOf (now bytes)))
-        × ((item ≡ frameItem (nodesOf (now bytes)) frame)
-        × (Below (length (nodesOf (now bytes))) item × IsShared (nodesOf (now bytes)) j shared))) ⌝ }
+        × (ItemOf (nodesOf (now bytes)) frame item
+        × IsShared (nodesOf (now bytes)) j shared)) ⌝ }
     ensures { λ r. ⌜ shiftsOf r ≡ shiftFor (nodesOf (now (bytes .entry))) frame j ⌝ }
 {
     let named = naming_for(bytes, rows, frame, item, j, shared);
@@ -543,7 +512,7 @@ pub fn shift_by(
 pub fn shift_for(bytes: &[u8], rows: &[u32], frame: usize, item: Num, j: usize) -> Shifts
     requires { ⌜ Table (now bytes) (now rows)
         × ((j < length (nodesOf (now bytes)))
-        × ((item ≡ frameItem (nodesOf (now bytes)) frame) × Below (length (nodesOf (now bytes))) item)) ⌝ }
+        × ItemOf (nodesOf (now bytes)) frame item) ⌝ }
     ensures { λ r. ⌜ shiftsOf r ≡ shiftFor (nodesOf (now (bytes .entry))) frame j ⌝ }
 {
     let shared = shared_naming(bytes, rows, j);
@@ -552,22 +521,12 @@ pub fn shift_for(bytes: &[u8], rows: &[u32], frame: usize, item: Num, j: usize) 
 
 // ---- Step 6: the window
 
-fn is_number(n: Signed) -> bool
-    ensures { λ r. ⌜ r ≡ isNumber n ⌝ }
-{
-    match n {
-        Signed::Plus(_) => true,
-        Signed::Minus(_) => true,
-        Signed::None => false,
-    }
-}
-
 // A centre and a width, if both are numbers, and a function.
 fn window_of(center: Signed, width: Signed, function: Function) -> Windowed
     ensures { λ r. ⌜ windowedOf r ≡ check (isNumber center && (isNumber width && isFunction function)) (some (record { center = center; width = width; function = function })) ⌝ }
 {
-    if is_number(center) {
-        if is_number(width) {
+    if value::is_number(center) {
+        if value::is_number(width) {
             if value::is_function(function) {
                 Windowed::Is(Window {
                     center,
@@ -641,13 +600,12 @@ pub fn window_by(
     common: Windowed,
 ) -> Windowed
     requires { ⌜ Table (now bytes) (now rows)
-        × ((item ≡ frameItem (nodesOf (now bytes)) frame)
-        × (Below (length (nodesOf (now bytes))) item × (windowedOf common ≡ sharedWindow (nodesOf (now bytes)) stored))) ⌝ }
+        × (ItemOf (nodesOf (now bytes)) frame item × (windowedOf common ≡ sharedWindow (nodesOf (now bytes)) stored)) ⌝ }
     ensures { λ r. ⌜ windowedOf r ≡ windowFor (nodesOf (now (bytes .entry))) frame stored ⌝ }
 {
     match item {
         Num::None => Windowed::Lacks,
-        Num::Is(i) => match element::find_item(bytes, rows, i, tags::FRAME_VOI_LUT_SEQUENCE) {
+        Num::Is(i) => match node::find_in_item(bytes, rows, i, tags::FRAME_VOI_LUT_SEQUENCE) {
             Num::None => common,
             Num::Is(g) => window_at(bytes, rows, stored, g),
         },
@@ -657,7 +615,7 @@ pub fn window_by(
 // The same, with the window of the shared group worked out here.
 pub fn window_for(bytes: &[u8], rows: &[u32], frame: usize, item: Num, stored: usize) -> Windowed
     requires { ⌜ Table (now bytes) (now rows)
-        × ((item ≡ frameItem (nodesOf (now bytes)) frame) × (Below (length (nodesOf (now bytes))) item × (stored ≤ 16))) ⌝ }
+        × (ItemOf (nodesOf (now bytes)) frame item × (stored ≤ 16)) ⌝ }
     ensures { λ r. ⌜ windowedOf r ≡ windowFor (nodesOf (now (bytes .entry))) frame stored ⌝ }
 {
     let common = shared_window(bytes, rows, stored);
@@ -666,31 +624,32 @@ pub fn window_for(bytes: &[u8], rows: &[u32], frame: usize, item: Num, stored: u
 
 // ---- Step 7: whether the image is inverted
 
-fn inverse_by(v: &[u8]) -> Inverse
-    ensures { λ r. ⌜ inverseSaid r ≡ check (leb 1 (length (now (v .entry))) && isSingle (now (v .entry))) (some (isWord (now (v .entry)) (ascii "MONOCHROME1"))) ⌝ }
+fn inverse_by(v: &[u8]) -> Holds
+    ensures { λ r. ⌜ holdsOf r
+        ≡ check (leb 1 (length (now (v .entry))) && isSingle (now (v .entry))) (some (isWord (now (v .entry)) (ascii "MONOCHROME1"))) ⌝ }
 {
     if 1 <= v.len() {
         if value::is_single(v) {
             if value::is_word(v, b"MONOCHROME1") {
-                Inverse::Yes
+                Holds::Yes
             } else {
-                Inverse::No
+                Holds::No
             }
         } else {
-            Inverse::Lacks
+            Holds::Lacks
         }
     } else {
-        Inverse::Lacks
+        Holds::Lacks
     }
 }
 
 // Step 7: MONOCHROME1 inverts.
-pub fn inverse_of(bytes: &[u8], rows: &[u32]) -> Inverse
+pub fn inverse_of(bytes: &[u8], rows: &[u32]) -> Holds
     requires { ⌜ Table (now bytes) (now rows) ⌝ }
-    ensures { λ r. ⌜ inverseSaid r ≡ inverseOf (nodesOf (now (bytes .entry))) ⌝ }
+    ensures { λ r. ⌜ holdsOf r ≡ inverseOf (nodesOf (now (bytes .entry))) ⌝ }
 {
     match element::find_vr_root(bytes, rows, tags::PHOTOMETRIC_INTERPRETATION, vrs::CS) {
-        Num::None => Inverse::Lacks,
+        Num::None => Holds::Lacks,
         Num::Is(i) => inverse_by(node::value(bytes, rows, i)),
     }
 }
@@ -746,7 +705,7 @@ pub fn pixel_element(bytes: &[u8], rows: &[u32]) -> Num
     ensures { λ r. ⌜ valueFound (nodesOf (now (bytes .entry))) r ≡ pixelsOf (nodesOf (now (bytes .entry))) ⌝ }
     ensures { λ r. ⌜ Below (length (nodesOf (now (bytes .entry)))) r ⌝ }
 {
-    match element::find_root(bytes, rows, tags::PIXEL_DATA) {
+    match node::find_root(bytes, rows, tags::PIXEL_DATA) {
         Num::None => Num::None,
         Num::Is(p) => {
             let vr = node::vr(bytes, rows, p);

@@ -1,7 +1,7 @@
 // The answers of the steps, in words and numbers. What a step lacks is printed as `lacks`.
 use shift::Shift;
 use steps::Found;
-use steps::Inverse;
+use steps::Holds;
 use steps::Shifts;
 use steps::Sized;
 use steps::Windowed;
@@ -49,15 +49,15 @@ pub fn print_size(size: Sized) {
     }
 }
 
-pub fn print_inverse(inverse: Inverse) {
+pub fn print_inverse(inverse: Holds) {
     match inverse {
-        Inverse::Yes => {
+        Holds::Yes => {
             io::write_all(1, b" inverse yes");
         }
-        Inverse::No => {
+        Holds::No => {
             io::write_all(1, b" inverse no");
         }
-        Inverse::Lacks => {
+        Holds::Lacks => {
             io::write_all(1, b" inverse lacks");
         }
     }

@@ -122,7 +122,7 @@ fn print_tid(bytes: &[u8], rows: &[u32], frame: usize, j: usize)
     answers::print_tid(steps::tid_frame(bytes, rows, frame, j, frames));
 }
 
-// Step 4. It is not asked for frame 0, which no data set has: `frameItem` counts from 1, and gives the first item for 0 too.
+// Step 4. It is not asked for frame 0, which no data set has.
 fn print_shift(bytes: &[u8], rows: &[u32], frame: usize, item: Num, j: usize)
     requires { ⌜ Table (now bytes) (now rows)
         × ((j < length (nodesOf (now bytes)))
@@ -172,7 +172,7 @@ fn applying_to(bytes: &[u8], rows: &[u32], frame: usize) -> Applies
     ensures { λ r. ⌜ appliesOf r ≡ applyingTo (nodesOf (now (bytes .entry))) frame ⌝ }
     ensures { λ r. ⌜ AppliesBelow (length (nodesOf (now (bytes .entry)))) r ⌝ }
 {
-    match element::find_root(bytes, rows, tags::MASK_SUBTRACTION_SEQUENCE) {
+    match node::find_root(bytes, rows, tags::MASK_SUBTRACTION_SEQUENCE) {
         Num::None => Applies::Nothing,
         Num::Is(m) => {
             if node::vr(bytes, rows, m) == vrs::SQ {

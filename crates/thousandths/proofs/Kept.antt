@@ -11,24 +11,24 @@ use Rattle.node.specs.Nodes.{nodesOf}
 use Rattle.conformance.specs.Judging.{firstFrame, frameCount}
 use Rattle.display.specs.Drawing.{IsAccepted, IsFrame}
 use Rattle.display.proofs.Drawing.{drawing}
-use Rattle.thousandths.specs.Rule30.{rule30}
-use Rattle.thousandths.specs.Kept.{WasAccepted, KeepsPicture, Kept}
+use Rattle.thousandths.specs.Rule30.{rule30Before}
+use Rattle.thousandths.specs.Kept.{IsAcceptedBefore, DrawnAlike, Kept}
 use Rattle.thousandths.proofs.Numbers as numbers
 use Rattle.thousandths.proofs.Rules as rules
 use Rattle.thousandths.proofs.Pictures as pictures
 
-accepted : (s : List ℕ) → WasAccepted s → IsAccepted s
+accepted : (s : List ℕ) → IsAcceptedBefore s → IsAccepted s
 accepted s a = record { rows = a .rows; reads = a .reads; sound = rules.accepted (nodesOf s) (a .sound) }
 
 -- Rule 30 held at the frame.
-at-frame : (s : List ℕ) (f : ℕ) → WasAccepted s → IsFrame s f → rule30 (nodesOf s) f ≡ true
+at-frame : (s : List ℕ) (f : ℕ) → IsAcceptedBefore s → IsFrame s f → rule30Before (nodesOf s) f ≡ true
 unfolding firstFrame frameCount perFrame
 at-frame s f a i = rules.held (nodesOf s) f (a .sound 30 (omega arith) (omega arith) f (i .low) (omega (arith, i .high)))
 
-kept : (s : List ℕ) → IsBytes s → WasAccepted s → (f : ℕ) → IsFrame s f → KeepsPicture (nodesOf s) f
+kept : (s : List ℕ) → IsBytes s → IsAcceptedBefore s → (f : ℕ) → IsFrame s f → DrawnAlike (nodesOf s) f
 kept s b a f i =
     let w = drawing s b f .drawable (accepted s a) i in
-    record { p = w .p; was = sym (pictures.pictures (nodesOf s) f (at-frame s f a i)) ∙ w .is; is = w .is }
+    record { p = w .p; before = sym (pictures.pictures (nodesOf s) f (at-frame s f a i)) ∙ w .is; after = w .is }
 
 pub millionths-keep : Kept
 millionths-keep = record { numbers = numbers.numbers; accepted = accepted; pictures = kept; drawn = pictures.drawn }

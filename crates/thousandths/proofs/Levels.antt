@@ -11,13 +11,13 @@ use Rattle.value.specs.declared.Signed.the-variants as signed
 use Rattle.value.specs.declared.Function.{Function}
 use Rattle.value.specs.declared.Function.the-variants as function
 use Rattle.value.specs.Number as current
-use Rattle.window.specs.declared.Window as present
+use Rattle.window.specs.declared.Window.{Window}
 use Rattle.window.specs.Window as window
-use Rattle.window.specs.Window.{integer, floor}
+use Rattle.window.specs.Window.{integer, floor, levelBy}
 use Rattle.window.proofs.Gaps.{Gap, shift, whole, plus, less, times, same-leb, le-test, ltZ-leZ}
 use Rattle.window.proofs.Laws.{signed-gap, over, under, integer-gap}
-use Rattle.thousandths.specs.Number.{unit, factor, scaled}
-use Rattle.thousandths.specs.Step6.{Window, fullWindow, takenOff, levelBy, levelAt, levelOf, levelHalf}
+use Rattle.thousandths.specs.Number.{unitBefore, factor, scaled}
+use Rattle.thousandths.specs.Step6.{fullWindowBefore, takenOffBefore, levelAtBefore, levelOfBefore, levelHalfBefore}
 
 -- The second integer is `factor` times the first.
 record Scaled (y z : ℤ) : Type 0 where
@@ -88,7 +88,7 @@ same-floor {x = negsuc n} {y = y} {u = u} {v = v} s t = rw (scaled-neg n y s, sc
 
 -- ---- The level
 
-level-scaled : {e o c d w v t q : ℤ} → Scaled e o → Scaled c d → Scaled w v → Scaled t q → window.levelBy o d v q ≡ levelBy e c w t
+level-scaled : {e o c d w v t q : ℤ} → Scaled e o → Scaled c d → Scaled w v → Scaled t q → levelBy o d v q ≡ levelBy e c w t
 level-scaled se sc sw st =
     rw (
       ← same-le st (of-less (of-two sc) sw),
@@ -97,10 +97,10 @@ level-scaled se sc sw st =
       same-floor (of-less (of-plus (of-255 (of-plus (of-less st (of-two sc)) sw)) sw) se) (of-two (of-less sw se)),
     )
 
-scaled-off : (f : Function) → Scaled (pos (takenOff f)) (pos (window.takenOff f))
-scaled-off function.Linear = of-whole unit
+scaled-off : (f : Function) → Scaled (pos (takenOffBefore f)) (pos (window.takenOff f))
+scaled-off function.Linear = of-whole unitBefore
 scaled-off function.Exact = of-whole 0
-scaled-off function.Other = of-whole unit
+scaled-off function.Other = of-whole unitBefore
 
 scaled-signed : (s : Signed) → Scaled (integer s) (integer (scaled s))
 scaled-signed (signed.Plus n) = of-whole n
@@ -113,33 +113,34 @@ scaled-signed (signed.Minus (suc n)) = record {
 }
 scaled-signed signed.None = of-whole 0
 
-scaled-place : (x : ℤ) → Scaled (pos (2 * unit) *ℤ x) (pos (2 * current.unit) *ℤ x)
+scaled-place : (x : ℤ) → Scaled (pos (2 * unitBefore) *ℤ x) (pos (2 * current.unit) *ℤ x)
 scaled-place x = record {
-  a = 2 * unit * over x;
-  b = 2 * unit * under x;
-  one = times (2 * unit) (integer-gap x);
+  a = 2 * unitBefore * over x;
+  b = 2 * unitBefore * under x;
+  one = times (2 * unitBefore) (integer-gap x);
   thousand = shift (times (2 * current.unit) (integer-gap x)) _ _ (omega arith);
 }
 
 -- The same window, in millionths.
-abbrev pub scaledWindow : Window → present.Window
+abbrev pub scaledWindow : Window → Window
 scaledWindow w = record { center = scaled (w .center); width = scaled (w .width); function = w .function }
 
-same-at : (w : Window) {t q : ℤ} → Scaled t q → window.levelAt (scaledWindow w) q ≡ levelAt w t
+same-at : (w : Window) {t q : ℤ} → Scaled t q → window.levelAt (scaledWindow w) q ≡ levelAtBefore w t
 same-at w st = level-scaled (scaled-off (w .function)) (scaled-signed (w .center)) (scaled-signed (w .width)) st
 
-pub same-level : (w : Window) (x : ℤ) → window.levelOf (scaledWindow w) x ≡ levelOf w x
-unfolding window.levelOf levelOf
+pub same-level : (w : Window) (x : ℤ) → window.levelOf (scaledWindow w) x ≡ levelOfBefore w x
+unfolding window.levelOf levelOfBefore
 same-level w x = same-at w (scaled-place x)
 
-pub same-half : (w : Window) (x : ℤ) → window.levelHalf (scaledWindow w) x ≡ levelHalf w x
-unfolding window.levelHalf levelHalf
-same-half w x = same-at w (of-plus (scaled-place x) (of-whole unit))
+pub same-half : (w : Window) (x : ℤ) → window.levelHalf (scaledWindow w) x ≡ levelHalfBefore w x
+unfolding window.levelHalf levelHalfBefore
+same-half w x = same-at w (of-plus (scaled-place x) (of-whole unitBefore))
 
-pub same-full : (stored : ℕ) → window.fullWindow stored ≡ scaledWindow (fullWindow stored)
-unfolding window.fullWindow fullWindow
+pub same-full : (stored : ℕ) → window.fullWindow stored ≡ scaledWindow (fullWindowBefore stored)
+unfolding window.fullWindow fullWindowBefore
 same-full stored =
     ap (λ (n : ℕ). record { center = signed.Plus n; width = signed.Plus (current.unit * 2 ^ stored); function = function.Linear })
     (omega arith)
-    ∙ ap (λ (n : ℕ). record { center = signed.Plus (factor * (unit * 2 ^ stored / 2)); width = signed.Plus n; function = function.Linear })
+    ∙ ap (λ (n : ℕ).
+    record { center = signed.Plus (factor * (unitBefore * 2 ^ stored / 2)); width = signed.Plus n; function = function.Linear })
     (omega arith)

@@ -17,7 +17,8 @@ use Rattle.value.specs.Number as current
 use Rattle.value.specs.Number.{Digits, isDigit, digitsOf, afterSign, isMinus, withSign, signedBy, runOf, ifSmall, exactOf, endOf, isNumber}
 use Rattle.value.proofs.Runs.{digits-size, digits-below}
 use Rattle.value.proofs.Powers.{within-is, exact-up}
-use Rattle.thousandths.specs.Number.{decimals, unit, pointOn, fractionOn, sizeOf, decimalOf, factor, scaled}
+use Rattle.thousandths.specs.Number.{decimalsBefore, unitBefore, pointOnBefore, fractionOnBefore, sizeOfBefore, decimalOfBefore}
+use Rattle.thousandths.specs.Number.{factor, scaled}
 
 -- ---- Digits
 
@@ -88,9 +89,9 @@ chosen k m n e = go (eqb k 0) refl e
 -- With `after` decimals, at most 3.
 powers : (m after : ℕ) → after ≤ 3 → m * 10 ^ (current.decimals - after) ≡ factor * (m * 10 ^ (3 - after))
 powers m after h =
-    let d : current.decimals - after ≡ current.decimals - decimals + (decimals - after) = omega arith in
-    ap (λ (x : ℕ). m * 10 ^ x) d ∙ ap (λ (x : ℕ). m * x) (pow-add 10 (current.decimals - decimals) (decimals - after))
-    ∙ mul-left-comm m factor (10 ^ (decimals - after))
+    let d : current.decimals - after ≡ current.decimals - decimalsBefore + (decimalsBefore - after) = omega arith in
+    ap (λ (x : ℕ). m * 10 ^ x) d ∙ ap (λ (x : ℕ). m * x) (pow-add 10 (current.decimals - decimalsBefore) (decimalsBefore - after))
+    ∙ mul-left-comm m factor (10 ^ (decimalsBefore - after))
 
 exact-is : (m after : ℕ) → after ≤ 3 → m * 10 ^ (3 - after) < 1000000000
     → exactOf m current.decimals after ≡ num.Is (factor * (m * 10 ^ (3 - after)))
@@ -114,11 +115,11 @@ point-size whole s h =
 
 -- Behind a point.
 point-reads : (before whole : ℕ) (s : List ℕ) (n : ℕ) → whole < 1000000
-    → pointOn before (digitsOf decimals whole 0 s) (digitsOf decimals whole 0 s .rest) ≡ num.Is n
+    → pointOnBefore before (digitsOf decimalsBefore whole 0 s) (digitsOf decimalsBefore whole 0 s .rest) ≡ num.Is n
     → (current.pointBy before (runOf whole s) ≡ num.Is (factor * n)) × (length s ≤ 3)
 point-reads before whole s n h e = go (digitsOf 3 whole 0 s .rest) refl e
   where
-    go : (rest : List ℕ) → digitsOf 3 whole 0 s .rest ≡ rest → pointOn before (digitsOf decimals whole 0 s) rest ≡ num.Is n
+    go : (rest : List ℕ) → digitsOf 3 whole 0 s .rest ≡ rest → pointOnBefore before (digitsOf decimalsBefore whole 0 s) rest ≡ num.Is n
         → (current.pointBy before (runOf whole s) ≡ num.Is (factor * n)) × (length s ≤ 3)
     go (c ∷ t) r e = absurd (lacks n e)
     go [] r e =
@@ -134,15 +135,15 @@ point-reads before whole s n h e = go (digitsOf 3 whole 0 s .rest) refl e
           omega (arith, k .all, k .few, l),
         )
 
-pub reads : (s : List ℕ) (n : ℕ) → sizeOf s ≡ num.Is n → Reads s n
-unfolding sizeOf current.sizeOf
+pub reads : (s : List ℕ) (n : ℕ) → sizeOfBefore s ≡ num.Is n → Reads s n
+unfolding sizeOfBefore current.sizeOf
 reads s n e = go (digitsOf 6 0 0 s .rest) refl e
   where
-    go : (rest : List ℕ) → digitsOf 6 0 0 s .rest ≡ rest → fractionOn (digitsOf 6 0 0 s) rest ≡ num.Is n → Reads s n
+    go : (rest : List ℕ) → digitsOf 6 0 0 s .rest ≡ rest → fractionOnBefore (digitsOf 6 0 0 s) rest ≡ num.Is n → Reads s n
     go [] r e =
         let d = digitsOf 6 0 0 s in
         let k = counted 6 0 0 s in
-        let p = chosen (d .count) (d .number * unit) n e in
+        let p = chosen (d .count) (d .number * unitBefore) n e in
         let same : runOf 0 s ≡ d = same-digits 6 (length s) 0 0 s (ap stops r) (omega arith) in
         let l = ap (λ (y : List ℕ). length y) r in
         let b : d .number < 1000000 = digits-below 6 0 s in
@@ -157,7 +158,7 @@ reads s n e = go (digitsOf 6 0 0 s .rest) refl e
     go (c ∷ t) r e = by-point (eqb c 0x2E) refl e
       where
         by-point : (b : Bool) → eqb c 0x2E ≡ b
-            → cond b (pointOn (digitsOf 6 0 0 s .count) (digitsOf 3 (digitsOf 6 0 0 s .number) 0 t)
+            → cond b (pointOnBefore (digitsOf 6 0 0 s .count) (digitsOf 3 (digitsOf 6 0 0 s .number) 0 t)
             (digitsOf 3 (digitsOf 6 0 0 s .number) 0 t .rest)) num.None ≡ num.Is n
             → Reads s n
         by-point false q e = absurd (lacks n e)
@@ -182,7 +183,7 @@ record SignedReads (s : List ℕ) (old : Signed) : Type 0 where
   pub is : signedBy current.sizeOf s ≡ scaled old
   pub short : length s ≤ 11
 
-sign-reads : (minus : Bool) (t : List ℕ) (o : Num) → sizeOf t ≡ o → isNumber (withSign minus o) ≡ true
+sign-reads : (minus : Bool) (t : List ℕ) (o : Num) → sizeOfBefore t ≡ o → isNumber (withSign minus o) ≡ true
     → (withSign minus (current.sizeOf t) ≡ scaled (withSign minus o)) × (length t ≤ 10)
 sign-reads true t (num.Is n) q e = let r = reads t n q in (ap (withSign true) (r .is), r .short)
 sign-reads false t (num.Is n) q e = let r = reads t n q in (ap (withSign false) (r .is), r .short)
@@ -196,14 +197,14 @@ after-long (c ∷ s) = go (eqb c 0x2B || eqb c 0x2D)
     go true = omega arith
     go false = omega arith
 
-signed-reads : (s : List ℕ) → isNumber (signedBy sizeOf s) ≡ true → SignedReads s (signedBy sizeOf s)
+signed-reads : (s : List ℕ) → isNumber (signedBy sizeOfBefore s) ≡ true → SignedReads s (signedBy sizeOfBefore s)
 unfolding signedBy
 signed-reads s e =
-    let r = sign-reads (isMinus s) (afterSign s) (sizeOf (afterSign s)) refl e in
+    let r = sign-reads (isMinus s) (afterSign s) (sizeOfBefore (afterSign s)) refl e in
     record { is = r .0; short = omega (arith, r .1, after-long s) }
 
-pub numbers : (v : List ℕ) → isNumber (decimalOf v) ≡ true → current.decimalOf v ≡ scaled (decimalOf v)
-unfolding decimalOf current.decimalOf
+pub numbers : (v : List ℕ) → isNumber (decimalOfBefore v) ≡ true → current.decimalOf v ≡ scaled (decimalOfBefore v)
+unfolding decimalOfBefore current.decimalOf
 numbers v e =
     let r = signed-reads (trimmed v) e in
     rw (le-leb (length (trimmed v)) 16 (omega (arith, r .short))) (r .is)

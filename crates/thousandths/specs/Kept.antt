@@ -23,30 +23,30 @@ use Rattle.conformance.specs.Judging.{firstFrame, frameCount}
 use Rattle.steps.specs.Steps as steps
 use Rattle.steps.specs.Steps.{Picture}
 use Rattle.display.specs.Drawing.{IsAccepted, IsFrame}
-use Rattle.thousandths.specs.Number.{decimalOf, scaled}
-use Rattle.thousandths.specs.Rule30.{ruleAt}
-use Rattle.thousandths.specs.Step6.{stepsOf}
+use Rattle.thousandths.specs.Number.{decimalOfBefore, scaled}
+use Rattle.thousandths.specs.Rule30.{ruleAtBefore}
+use Rattle.thousandths.specs.Step6.{stepsOfBefore}
 
 -- Every rule held, rule 30 as it was, at every frame at which it is asked.
-abbrev pub RulesHeld : List Node → Type 0
-RulesHeld ns =
+abbrev pub AcceptedBefore : List Node → Type 0
+AcceptedBefore ns =
     (rule : ℕ) → 1 ≤ rule → rule ≤ lastRule → (f : ℕ) → firstFrame rule ≤ f → f < firstFrame rule + frameCount ns rule
-    → ruleAt ns rule f ≡ true
+    → ruleAtBefore ns rule f ≡ true
 
 -- The data set passed the size limit and the reading checks, and broke no rule.
-pub record WasAccepted (s : List ℕ) : Type 0 where
+pub record IsAcceptedBefore (s : List ℕ) : Type 0 where
   pub rows : List Row
   pub reads : readingOf s ≡ read rows
-  pub sound : RulesHeld (nodesOf s)
+  pub sound : AcceptedBefore (nodesOf s)
 
 -- The steps gave frame f a picture, and still give it.
-pub record KeepsPicture (ns : List Node) (f : ℕ) : Type 0 where
+pub record DrawnAlike (ns : List Node) (f : ℕ) : Type 0 where
   pub p : Picture
-  pub was : stepsOf ns f ≡ some p
-  pub is : steps.stepsOf ns f ≡ some p
+  pub before : stepsOfBefore ns f ≡ some p
+  pub after : steps.stepsOf ns f ≡ some p
 
 pub record Kept : Type 0 where
-  pub numbers : (v : List ℕ) → isNumber (decimalOf v) ≡ true → current.decimalOf v ≡ scaled (decimalOf v)
-  pub accepted : (s : List ℕ) → WasAccepted s → IsAccepted s
-  pub pictures : (s : List ℕ) → IsBytes s → WasAccepted s → (f : ℕ) → IsFrame s f → KeepsPicture (nodesOf s) f
-  pub drawn : (ns : List Node) (f : ℕ) (p : Picture) → stepsOf ns f ≡ some p → steps.stepsOf ns f ≡ some p
+  pub numbers : (v : List ℕ) → isNumber (decimalOfBefore v) ≡ true → current.decimalOf v ≡ scaled (decimalOfBefore v)
+  pub accepted : (s : List ℕ) → IsAcceptedBefore s → IsAccepted s
+  pub pictures : (s : List ℕ) → IsBytes s → IsAcceptedBefore s → (f : ℕ) → IsFrame s f → DrawnAlike (nodesOf s) f
+  pub drawn : (ns : List Node) (f : ℕ) (p : Picture) → stepsOfBefore ns f ≡ some p → steps.stepsOf ns f ≡ some p

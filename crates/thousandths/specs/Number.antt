@@ -1,8 +1,8 @@
 -- A DS number as rule 30 read it before: in thousandths, and without an exponent.
 use Prim.Native.Nat.{ℕ, _+_, _-_, _*_, _^_}
-use mathlib.Core.Bool.{Bool, false, cond}
+use mathlib.Core.Bool.{Bool, cond}
 use mathlib.Core.List.{List, [], _∷_}
-use lib.Dec.{eqb, leb}
+use lib.Dec.{eqb}
 use Rattle.value.specs.declared.Num.{Num}
 use Rattle.value.specs.declared.Num.the-variants as num
 use Rattle.value.specs.declared.Signed.{Signed}
@@ -11,60 +11,54 @@ use Rattle.value.specs.declared.Function.{Function}
 use Rattle.value.specs.declared.Function.the-variants as function
 use Rattle.value.specs.Text.{valuesOf, trimmed}
 use Rattle.value.specs.Number as current
-use Rattle.value.specs.Number.{Digits, digitsOf, signedBy, isNumber, all}
+use Rattle.value.specs.Number.{Digits, digitsOf, signedBy, isNumber, isWidth, all}
 
 -- Read in thousandths, that is with 3 decimals.
-abbrev pub decimals : ℕ
-decimals = 3
+abbrev pub decimalsBefore : ℕ
+decimalsBefore = 3
 
-abbrev pub unit : ℕ
-unit = 10 ^ decimals
+abbrev pub unitBefore : ℕ
+unitBefore = 10 ^ decimalsBefore
 
 -- Up to 6 digits, then optionally a point and up to 3 digits, at least one digit in all. After the point: `whole` is how many digits are
 -- before it, and decimals that were not written are zeros.
-abbrev pub pointOn : ℕ → Digits → List ℕ → Num
-pointOn whole d [] = cond (eqb (whole + d .count) 0) num.None (num.Is (d .number * 10 ^ (decimals - d .count)))
-pointOn whole d (c ∷ s) = num.None
+abbrev pub pointOnBefore : ℕ → Digits → List ℕ → Num
+pointOnBefore whole d [] = cond (eqb (whole + d .count) 0) num.None (num.Is (d .number * 10 ^ (decimalsBefore - d .count)))
+pointOnBefore whole d (c ∷ s) = num.None
 
-abbrev pub pointBy : ℕ → Digits → Num
-pointBy whole d = pointOn whole d (d .rest)
+abbrev pub pointByBefore : ℕ → Digits → Num
+pointByBefore whole d = pointOnBefore whole d (d .rest)
 
-abbrev pub fractionOn : Digits → List ℕ → Num
-fractionOn d [] = cond (eqb (d .count) 0) num.None (num.Is (d .number * unit))
-fractionOn d (c ∷ s) = cond (eqb c 0x2E) (pointBy (d .count) (digitsOf decimals (d .number) 0 s)) num.None
+abbrev pub fractionOnBefore : Digits → List ℕ → Num
+fractionOnBefore d [] = cond (eqb (d .count) 0) num.None (num.Is (d .number * unitBefore))
+fractionOnBefore d (c ∷ s) = cond (eqb c 0x2E) (pointByBefore (d .count) (digitsOf decimalsBefore (d .number) 0 s)) num.None
 
-abbrev pub fractionBy : Digits → Num
-fractionBy d = fractionOn d (d .rest)
+abbrev pub fractionByBefore : Digits → Num
+fractionByBefore d = fractionOnBefore d (d .rest)
 
-unfoldable pub sizeOf : List ℕ → Num
-sizeOf s = fractionBy (digitsOf 6 0 0 s)
+unfoldable pub sizeOfBefore : List ℕ → Num
+sizeOfBefore s = fractionByBefore (digitsOf 6 0 0 s)
 
 -- One value of a DS.
-unfoldable pub decimalOf : List ℕ → Signed
-decimalOf v = signedBy sizeOf (trimmed v)
+unfoldable pub decimalOfBefore : List ℕ → Signed
+decimalOfBefore v = signedBy sizeOfBefore (trimmed v)
 
 -- The least width of a function: 1 for LINEAR; for LINEAR_EXACT anything above 0.
-abbrev pub leastWidth : Function → ℕ
-leastWidth function.Linear = unit
-leastWidth function.Exact = 1
-leastWidth function.Other = unit
-
--- A width: at least the given number of thousandths.
-abbrev pub isWidth : ℕ → Signed → Bool
-isWidth least (signed.Plus n) = leb least n
-isWidth least (signed.Minus n) = false
-isWidth least signed.None = false
+abbrev pub leastWidthBefore : Function → ℕ
+leastWidthBefore function.Linear = unitBefore
+leastWidthBefore function.Exact = 1
+leastWidthBefore function.Other = unitBefore
 
 -- Every value of a DS has the form; every one is a width.
-unfoldable pub allDecimals : List ℕ → Bool
-allDecimals v = all (λ d. isNumber (decimalOf d)) (valuesOf v)
+unfoldable pub allDecimalsBefore : List ℕ → Bool
+allDecimalsBefore v = all (λ d. isNumber (decimalOfBefore d)) (valuesOf v)
 
-unfoldable pub allWidths : ℕ → List ℕ → Bool
-allWidths least v = all (λ d. isWidth least (decimalOf d)) (valuesOf v)
+unfoldable pub allWidthsBefore : ℕ → List ℕ → Bool
+allWidthsBefore least v = all (λ d. isWidth least (decimalOfBefore d)) (valuesOf v)
 
 -- The units in a thousandth, as DS numbers are read now.
 abbrev pub factor : ℕ
-factor = 10 ^ (current.decimals - decimals)
+factor = 10 ^ (current.decimals - decimalsBefore)
 
 -- So many thousandths, in those units.
 abbrev pub scaled : Signed → Signed

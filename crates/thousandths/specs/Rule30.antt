@@ -15,28 +15,30 @@ use Rattle.element.specs.Elements.{valueAt, theItem, functionIn}
 use Rattle.element.specs.Frames.{groupOf}
 use Rattle.rules.specs.Frame.{atFrame}
 use Rattle.rules.specs.All as current
-use Rattle.thousandths.specs.Number.{allDecimals, leastWidth, allWidths}
+use Rattle.thousandths.specs.Number.{allDecimalsBefore, leastWidthBefore, allWidthsBefore}
 
 -- Frame VOI LUT (0028,9132), if present, one item; has Window Center (0028,1050) and Width (0028,1051) DS, equally many, each with the
 -- old form; VOI LUT Function (0028,1056) as it is; widths at least 1 with LINEAR, above 0 with LINEAR_EXACT.
-unfoldable pub isWindow : Function → List ℕ → List ℕ → Bool
-isWindow f centers widths =
-    isFunction f && (eqb (length (valuesOf centers)) (length (valuesOf widths)) && (allDecimals centers && allWidths (leastWidth f) widths))
+unfoldable pub isWindowBefore : Function → List ℕ → List ℕ → Bool
+isWindowBefore f centers widths =
+    isFunction f
+    && (eqb (length (valuesOf centers)) (length (valuesOf widths))
+    && (allDecimalsBefore centers && allWidthsBefore (leastWidthBefore f) widths))
 
-unfoldable pub hasWindow : List Node → List ℕ → Bool
-hasWindow ns is =
+unfoldable pub hasWindowBefore : List Node → List ℕ → Bool
+hasWindowBefore ns is =
     holds (findVr ns Tags.WindowCenter DS is)
-    (λ c. holds (findVr ns Tags.WindowWidth DS is) (λ w. isWindow (functionIn ns is) (valueAt ns c) (valueAt ns w)))
+    (λ c. holds (findVr ns Tags.WindowWidth DS is) (λ w. isWindowBefore (functionIn ns is) (valueAt ns c) (valueAt ns w)))
 
-unfoldable pub isVoi : List Node → ℕ → Bool
-isVoi ns g = holds (theItem ns g) (λ j. hasWindow ns (inside ns j))
+unfoldable pub isVoiBefore : List Node → ℕ → Bool
+isVoiBefore ns g = holds (theItem ns g) (λ j. hasWindowBefore ns (inside ns j))
 
-unfoldable pub item30 : List Node → ℕ → ℕ → Bool
-item30 ns s i = ifPresent (groupOf ns Tags.FrameVOILUTSequence s i) (isVoi ns)
+unfoldable pub item30Before : List Node → ℕ → ℕ → Bool
+item30Before ns s i = ifPresent (groupOf ns Tags.FrameVOILUTSequence s i) (isVoiBefore ns)
 
-unfoldable pub rule30 : List Node → ℕ → Bool
-rule30 ns f = atFrame ns f (item30 ns)
+unfoldable pub rule30Before : List Node → ℕ → Bool
+rule30Before ns f = atFrame ns f (item30Before ns)
 
 -- Whether a rule holds at a frame.
-unfoldable pub ruleAt : List Node → ℕ → ℕ → Bool
-ruleAt ns rule f = cond (eqb rule 30) (rule30 ns f) (current.ruleAt ns rule f)
+unfoldable pub ruleAtBefore : List Node → ℕ → ℕ → Bool
+ruleAtBefore ns rule f = cond (eqb rule 30) (rule30Before ns f) (current.ruleAt ns rule f)

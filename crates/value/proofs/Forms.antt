@@ -11,7 +11,7 @@ use borrow.Author.Tests.{eq-eqb, ne-eqb}
 use Rattle.value.specs.declared.Num.the-variants as num
 use Rattle.value.specs.declared.Run.{Run}
 use Rattle.value.specs.Number.{digitsOf, afterSign, isMinus, wholeOf, decimals, runOf, exactOf, scaledBy, isMark, exponentOf}
-use Rattle.value.specs.Number.{endOf, pointBy, sizeOf}
+use Rattle.value.specs.Number.{characters, endOf, pointBy, sizeOf}
 use Rattle.value.specs.Contracts.{DigitsRead}
 use Rattle.basics.proofs.Lists.{from-next, from-end}
 use Rattle.value.proofs.Runs.{digits-size, digits-below}
@@ -136,16 +136,16 @@ minus-first (c ∷ s) e = refl
 
 -- ---- Sixteen characters make a number of 64 bits
 
-pub run-fits : (n : ℕ) → n ≤ 16 → (0 + 1) * 10 ^ n ≤ 10000000000000000
+pub run-fits : (n : ℕ) → n ≤ characters → (0 + 1) * 10 ^ n ≤ 10 ^ characters
 run-fits n h = omega (arith, pow-le-pow-right {n = 10} (omega arith) {i = n} {j = 16} h)
 
-pub number-fits : (whole : ℕ) (s : List ℕ) (r : Run) → DigitsRead (length s) whole s r → (whole + 1) * 10 ^ length s ≤ 10000000000000000
-    → r .number ≤ 10000000000000000
+pub number-fits : (whole : ℕ) (s : List ℕ) (r : Run) → DigitsRead (length s) whole s r → (whole + 1) * 10 ^ length s ≤ 10 ^ characters
+    → r .number ≤ 10 ^ characters
 number-fits whole s r d h = omega (arith, d .number, digits-below (length s) whole s)
 
 -- With what follows the point as digits.
 pub point-fits : (s : List ℕ) (r : Run) → DigitsRead (length s) 0 s r → length s ≤ 16 → (k : ℕ) → k + r .count ≤ length s
-    → (r .number + 1) * 10 ^ k ≤ 10000000000000000
+    → (r .number + 1) * 10 ^ k ≤ 10 ^ characters
 point-fits s r d h k l =
     let n = digitsOf (length s) 0 0 s .number in
     let more : k ≤ length s + 0 - digitsOf (length s) 0 0 s .count = omega (arith, d .count) in

@@ -1,4 +1,5 @@
--- For callers: what a bound says of a number that was matched, bounds of the text forms, and the values of a US.
+-- What callers use: the bound of a number holds of what was matched; a text form has few digits, so its number is small; and each value of
+-- a US takes two bytes, so value k stands 2k bytes on.
 use mathlib.Core.Path.{_≡_, refl, ap, _∙_, subst}
 use Prim.Native.Nat.{ℕ, zero, suc, _+_, _*_, _^_, _/_, _%_, _≤_, _<_}
 use native.Mathlib.Omega.{arith}
@@ -15,8 +16,8 @@ use Rattle.value.specs.declared.Num.the-variants as num
 use Rattle.value.specs.declared.Signed.{Signed}
 use Rattle.value.specs.declared.Signed.the-variants as signed
 use Rattle.value.specs.Text.{isSingle, valueOf, trimmed}
-use Rattle.value.specs.Number.{Digits, usValues, digitsOf, afterSign, isMinus, withSign, signedBy, wholeOn, wholeOf, isOf, decimals}
-use Rattle.value.specs.Number.{sizeLimit}
+use Rattle.value.specs.Number.{numberOr0, Digits, usValues, digitsOf, afterSign, isMinus, withSign, signedBy, wholeOn, wholeOf}
+use Rattle.value.specs.Number.{integerDigits, integerLimit, integerOf, decimals, sizeLimit}
 use Rattle.value.specs.Number.{characters, runOf, ifSmall, exactOf, scaledBy, isMark, exponentOf, endOf, pointBy, fractionOn, sizeOf}
 use Rattle.value.specs.Number.{decimalOf}
 use Rattle.value.specs.Contracts.{Below, SizeBelow}
@@ -26,6 +27,10 @@ use Rattle.value.proofs.Runs.{digits-below}
 
 pub below-is : (n k : ℕ) (r : Num) → r ≡ num.Is k → Below n r → k < n
 below-is n k r e b = subst (Below n) e b
+
+pub below-or-0 : (n : ℕ) (r : Num) → 0 < n → Below n r → numberOr0 r < n
+below-or-0 n (num.Is k) h b = b
+below-or-0 n num.None h b = h
 
 pub below-plus : (n k : ℕ) (r : Signed) → r ≡ signed.Plus k → SizeBelow n r → k < n
 below-plus n k r e b = subst (SizeBelow n) e b
@@ -136,15 +141,15 @@ if-read : (n : ℕ) (t : Bool) (a : Signed) → SizeBelow n a → SizeBelow n (c
 if-read n true a h = h
 if-read n false a h = tt
 
-pub isOf-below : (v : List ℕ) → SizeBelow 100000000000 (isOf v)
-unfolding isOf
-isOf-below v =
-    if-read 100000000000 (isSingle v) (signedBy (wholeOf 11) (trimmed (valueOf v 0)))
-    (signed-below 100000000000 (wholeOf 11) (whole-below 11) (trimmed (valueOf v 0)))
+pub integerOf-below : (v : List ℕ) → SizeBelow integerLimit (integerOf v)
+unfolding integerOf
+integerOf-below v =
+    if-read integerLimit (isSingle v) (signedBy (wholeOf integerDigits) (trimmed (valueOf v 0)))
+    (signed-below integerLimit (wholeOf integerDigits) (whole-below integerDigits) (trimmed (valueOf v 0)))
 
-pub exponent-below : (s : List ℕ) → SizeBelow 10000000000000000 (exponentOf s)
+pub exponent-below : (s : List ℕ) → SizeBelow (10 ^ characters) (exponentOf s)
 unfolding exponentOf
-exponent-below s = signed-below 10000000000000000 (wholeOf characters) (whole-below characters) s
+exponent-below s = signed-below (10 ^ characters) (wholeOf characters) (whole-below characters) s
 
 pub decimalOf-below : (v : List ℕ) → SizeBelow sizeLimit (decimalOf v)
 unfolding decimalOf

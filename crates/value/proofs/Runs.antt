@@ -1,4 +1,5 @@
--- Digits: one byte on, how large their number is, and what follows them.
+-- Each digit makes the number at most ten times as large plus nine, so what was read of digits stays within ten to the power of their
+-- count; and going on by a byte reads the digits of what follows.
 use mathlib.Core.Path.{_≡_, refl, sym, ap, _∙_}
 use Prim.Native.Nat.{ℕ, zero, suc, _+_, _-_, _*_, _^_, _≤_, _<_}
 use native.Mathlib.Omega.{arith}

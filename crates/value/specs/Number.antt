@@ -9,8 +9,6 @@ use Rattle.value.specs.declared.Num.{Num}
 use Rattle.value.specs.declared.Num.the-variants as num
 use Rattle.value.specs.declared.Signed.{Signed}
 use Rattle.value.specs.declared.Signed.the-variants as signed
-use Rattle.value.specs.declared.Asked.{Asked}
-use Rattle.value.specs.declared.Asked.the-variants as asked
 use Rattle.value.specs.declared.Function.{Function}
 use Rattle.value.specs.declared.Function.the-variants as function
 use Rattle.value.specs.Text.{valuesOf, valueOf, isSingle, trimmed}
@@ -39,10 +37,37 @@ ssOf v =
     (cond (ltb (le16 v 0) 32768) (signed.Plus (le16 v 0)) (signed.Minus (65536 - le16 v 0)))
     signed.None
 
+-- No SS has this size: -32,768 is the farthest from 0.
+abbrev pub ssLimit : ℕ
+ssLimit = 32769
+
+-- ---- Characters of a number
+
+abbrev pub plus : ℕ
+plus = 0x2B
+
+abbrev pub minus : ℕ
+minus = 0x2D
+
+abbrev pub point : ℕ
+point = 0x2E
+
+abbrev pub digit0 : ℕ
+digit0 = 0x30
+
+abbrev pub digit9 : ℕ
+digit9 = 0x39
+
+abbrev pub capitalE : ℕ
+capitalE = 0x45
+
+abbrev pub smallE : ℕ
+smallE = 0x65
+
 -- ---- Digits
 
 abbrev pub isDigit : ℕ → Bool
-isDigit c = leb 0x30 c && leb c 0x39
+isDigit c = leb digit0 c && leb c digit9
 
 -- Digits that were read: their number, how many there are, and what follows them.
 pub record Digits : Type 0 where
@@ -55,18 +80,18 @@ unfoldable pub digitsOf : ℕ → ℕ → ℕ → List ℕ → Digits
 digitsOf zero n k s = record { number = n; count = k; rest = s }
 digitsOf (suc limit) n k [] = record { number = n; count = k; rest = [] }
 digitsOf (suc limit) n k (c ∷ s) =
-    cond (isDigit c) (digitsOf limit (10 * n + (c - 0x30)) (k + 1) s) (record { number = n; count = k; rest = c ∷ s })
+    cond (isDigit c) (digitsOf limit (10 * n + (c - digit0)) (k + 1) s) (record { number = n; count = k; rest = c ∷ s })
 
 -- ---- A sign in front
 
 -- What follows the sign, and whether it is a minus.
 abbrev pub afterSign : List ℕ → List ℕ
 afterSign [] = []
-afterSign (c ∷ s) = cond (eqb c 0x2B || eqb c 0x2D) s (c ∷ s)
+afterSign (c ∷ s) = cond (eqb c plus || eqb c minus) s (c ∷ s)
 
 abbrev pub isMinus : List ℕ → Bool
 isMinus [] = false
-isMinus (c ∷ s) = eqb c 0x2D
+isMinus (c ∷ s) = eqb c minus
 
 abbrev pub withSign : Bool → Num → Signed
 withSign minus (num.Is n) = cond minus (signed.Minus n) (signed.Plus n)
@@ -90,9 +115,16 @@ wholeBy d = wholeOn d (d .rest)
 unfoldable pub wholeOf : ℕ → List ℕ → Num
 wholeOf limit s = wholeBy (digitsOf limit 0 0 s)
 
+-- An IS has at most 11 digits, so its number is below 10^11.
+abbrev pub integerDigits : ℕ
+integerDigits = 11
+
+abbrev pub integerLimit : ℕ
+integerLimit = 10 ^ integerDigits
+
 -- A single IS: rule 15's form, 1 to 11 digits.
-unfoldable pub isOf : List ℕ → Signed
-isOf v = cond (isSingle v) (signedBy (wholeOf 11) (trimmed (valueOf v 0))) signed.None
+unfoldable pub integerOf : List ℕ → Signed
+integerOf v = cond (isSingle v) (signedBy (wholeOf integerDigits) (trimmed (valueOf v 0))) signed.None
 
 -- ---- DS
 
@@ -135,7 +167,7 @@ scaledBy m after signed.None = num.None
 
 -- E or e.
 abbrev pub isMark : ℕ → Bool
-isMark c = eqb c 0x45 || eqb c 0x65
+isMark c = eqb c capitalE || eqb c smallE
 
 -- What follows E or e: a sign or none, then a digit or more. (16 digits: no value has more characters.)
 unfoldable pub exponentOf : List ℕ → Signed
@@ -152,7 +184,7 @@ pointBy before d = endOf (before + d .count) (d .number) (d .count) (d .rest)
 
 abbrev pub fractionOn : Digits → List ℕ → Num
 fractionOn d [] = endOf (d .count) (d .number) 0 []
-fractionOn d (c ∷ s) = cond (eqb c 0x2E) (pointBy (d .count) (runOf (d .number) s)) (endOf (d .count) (d .number) 0 (c ∷ s))
+fractionOn d (c ∷ s) = cond (eqb c point) (pointBy (d .count) (runOf (d .number) s)) (endOf (d .count) (d .number) 0 (c ∷ s))
 
 abbrev pub fractionBy : Digits → Num
 fractionBy d = fractionOn d (d .rest)
@@ -182,22 +214,14 @@ isWidth least (signed.Plus n) = leb least n
 isWidth least (signed.Minus n) = false
 isWidth least signed.None = false
 
+-- Every value passes the test.
 unfoldable pub all : (List ℕ → Bool) → List (List ℕ) → Bool
 all p [] = true
 all p (v ∷ vs) = p v && all p vs
 
--- What is asked of a number: that it is one, or a width.
-abbrev pub isAsked : Asked → Signed → Bool
-isAsked asked.Number n = isNumber n
-isAsked (asked.AtLeast least) n = isWidth least n
-
--- Every value of a DS is as asked.
-abbrev pub allAsked : Asked → List ℕ → Bool
-allAsked a v = all (λ d. isAsked a (decimalOf d)) (valuesOf v)
-
 -- Every value of a DS has the form; every one is a width.
 unfoldable pub allDecimals : List ℕ → Bool
-allDecimals v = allAsked asked.Number v
+allDecimals v = all (λ d. isNumber (decimalOf d)) (valuesOf v)
 
 unfoldable pub allWidths : ℕ → List ℕ → Bool
-allWidths least v = allAsked (asked.AtLeast least) v
+allWidths least v = all (λ d. isWidth least (decimalOf d)) (valuesOf v)

@@ -13,6 +13,14 @@ abbrev pub ascii : String → List ℕ
 ascii empty = []
 ascii (c then s) = code c ∷ ascii s
 
+-- ---- Characters
+
+abbrev pub space : ℕ
+space = 0x20
+
+abbrev pub backslash : ℕ
+backslash = 0x5C
+
 -- ---- Splitting
 
 abbrev pub onFirst : ℕ → List (List ℕ) → List (List ℕ)
@@ -22,7 +30,7 @@ onFirst c (v ∷ vs) = (c ∷ v) ∷ vs
 -- The values, split at each backslash: one more than there are backslashes.
 unfoldable pub valuesOf : List ℕ → List (List ℕ)
 valuesOf [] = [] ∷ []
-valuesOf (c ∷ s) = cond (eqb c 0x5C) ([] ∷ valuesOf s) (onFirst c (valuesOf s))
+valuesOf (c ∷ s) = cond (eqb c backslash) ([] ∷ valuesOf s) (onFirst c (valuesOf s))
 
 -- Value k, counted from 0; empty if there are fewer.
 abbrev pub valueOf : List ℕ → ℕ → List ℕ
@@ -49,4 +57,4 @@ trimEnd b (c ∷ s) = before b c (trimEnd b s)
 
 -- Without outer spaces (CS, IS, DS).
 abbrev pub trimmed : List ℕ → List ℕ
-trimmed v = trimStart 0x20 (trimEnd 0x20 v)
+trimmed v = trimStart space (trimEnd space v)

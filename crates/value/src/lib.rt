@@ -4,11 +4,11 @@ ghost use Prim.Native.Nat.{_+_, _-_, _*_, _^_, _≤_, _<_};
 ghost use lib.ListN.{length, drop, getD};
 ghost use Rattle.value.specs.Text.{valuesOf, valueOf, isSingle, trimStart, trimEnd, trimmed};
 ghost use Rattle.value.specs.Words.{wordAt, isWord, isUid, functionOf, isFunction};
-ghost use Rattle.value.specs.Number.{usOf, usValues, ssOf, afterSign, isMinus, withSign, signedBy, wholeOf, isOf, sizeLimit};
-ghost use Rattle.value.specs.Number.{characters, runOf};
+ghost use Rattle.value.specs.Number.{numberOr0, usOf, usValues, ssOf, ssLimit, afterSign, isMinus, withSign, signedBy, wholeOf};
+ghost use Rattle.value.specs.Number.{integerLimit, integerOf, sizeLimit, characters, runOf};
 ghost use Rattle.value.specs.Number.{ifSmall, wholly, exactOf, scaledBy, isMark, exponentOf, endOf, pointBy, sizeOf, decimalOf};
-ghost use Rattle.value.specs.Number.{isNumber, leastWidth, isWidth, isAsked, allAsked, allDecimals, allWidths};
-ghost use Rattle.value.specs.Contracts.{Below, SizeBelow, DigitsRead, partsAt};
+ghost use Rattle.value.specs.Number.{isNumber, leastWidth, isWidth, allDecimals, allWidths};
+ghost use Rattle.value.specs.Contracts.{Below, SizeBelow, DigitsRead, partsAt, isAsked, allAsked};
 use basics::same_bytes;
 use basics::u16_at;
 use basics::wide;
@@ -45,15 +45,19 @@ struct Run {
     count: usize,
 }
 
-const BACKSLASH: u8 = 0x5C;
+const BACKSLASH: u8 = b'\\';
 
-const SPACE: u8 = 0x20;
+const SPACE: u8 = b' ';
 
-const PLUS: u8 = 0x2B;
+const PLUS: u8 = b'+';
 
-const MINUS: u8 = 0x2D;
+const MINUS: u8 = b'-';
 
-const POINT: u8 = 0x2E;
+const POINT: u8 = b'.';
+
+const ZERO: usize = b'0' as usize;
+
+const NINE: usize = b'9' as usize;
 
 // The unit of a DS number is a millionth: the number one has this many units.
 pub const UNIT: usize = 1000000;
@@ -63,6 +67,9 @@ const DECIMALS: usize = 6;
 
 // A DS number is below one million.
 const SIZE_LIMIT: usize = 1000000 * UNIT;
+
+// The digits that an IS may have.
+const INTEGER_DIGITS: usize = 11;
 
 // The characters that a DS value may have.
 const CHARACTERS: usize = 16;
@@ -238,6 +245,17 @@ pub fn least_width(f: Function) -> usize
     }
 }
 
+// ---- Numbers
+
+pub fn number_or_0(n: Num) -> usize
+    ensures { λ r. ⌜ r ≡ numberOr0 n ⌝ }
+{
+    match n {
+        Num::Is(k) => k,
+        Num::None => 0,
+    }
+}
+
 // ---- US and SS
 
 // A single US.
@@ -264,7 +282,7 @@ pub fn us_value(v: &[u8], k: usize) -> usize
 // A single SS.
 pub fn ss_of(v: &[u8]) -> Signed
     ensures { λ r. ⌜ r ≡ ssOf (now (v .entry)) ⌝ }
-    ensures { λ r. ⌜ SizeBelow 32769 r ⌝ }
+    ensures { λ r. ⌜ SizeBelow ssLimit r ⌝ }
 {
     if v.len() == 2 {
         let n = u16_at(v, 0);
@@ -282,7 +300,7 @@ pub fn ss_of(v: &[u8]) -> Signed
 
 // Up to `limit` digits at the start, after digits that made `start`.
 fn digits(s: &[u8], limit: usize, start: usize) -> Run
-    requires { ⌜ (start + 1) * 10 ^ limit ≤ 10000000000000000 ⌝ }
+    requires { ⌜ (start + 1) * 10 ^ limit ≤ 10 ^ characters ⌝ }
     ensures { λ r. ⌜ DigitsRead limit start (now (s .entry)) r ⌝ }
 {
     let mut number = start;
@@ -290,32 +308,20 @@ fn digits(s: &[u8], limit: usize, start: usize) -> Run
     let mut i = 0;
     while i < s.len() {
         if left == 0 {
-            return Run {
-                number: number,
-                count: i,
-            };
+            return Run { number, count: i };
         }
         let x = wide(s[i]);
-        if x < 0x30 {
-            return Run {
-                number: number,
-                count: i,
-            };
+        if x < ZERO {
+            return Run { number, count: i };
         }
-        if 0x39 < x {
-            return Run {
-                number: number,
-                count: i,
-            };
+        if NINE < x {
+            return Run { number, count: i };
         }
-        number = 10 * number + (x - 0x30);
+        number = 10 * number + (x - ZERO);
         left -= 1;
         i += 1;
     }
-    Run {
-        number: number,
-        count: i,
-    }
+    Run { number, count: i }
 }
 
 // What follows a sign in front.
@@ -380,14 +386,14 @@ fn signed_whole(s: &[u8], limit: usize) -> Signed
 }
 
 // A single IS.
-pub fn is_of(v: &[u8]) -> Signed
-    ensures { λ r. ⌜ r ≡ isOf (now (v .entry)) ⌝ }
-    ensures { λ r. ⌜ SizeBelow 100000000000 r ⌝ }
+pub fn integer_of(v: &[u8]) -> Signed
+    ensures { λ r. ⌜ r ≡ integerOf (now (v .entry)) ⌝ }
+    ensures { λ r. ⌜ SizeBelow integerLimit r ⌝ }
 {
     if is_single(v) {
         let p = value_of(v, 0);
         let t = trimmed(p);
-        signed_whole(t, 11)
+        signed_whole(t, INTEGER_DIGITS)
     } else {
         Signed::None
     }
@@ -397,7 +403,7 @@ pub fn is_of(v: &[u8]) -> Signed
 
 // m · 10^e units. No power is computed: a number that is not 0 exceeds the size of a DS number after at most 12 turns.
 fn multiplied(m: usize, e: usize) -> Num
-    requires { ⌜ (0 < m) × (m ≤ 10000000000000000) ⌝ }
+    requires { ⌜ (0 < m) × (m ≤ 10 ^ characters) ⌝ }
     ensures { λ r. ⌜ r ≡ ifSmall (m * 10 ^ e) ⌝ }
 {
     let mut n = m;
@@ -438,7 +444,7 @@ fn divided(m: usize, e: usize) -> Num
 
 // m · 10^up / 10^down units. Zero is zero at any exponent.
 fn exact(m: usize, up: usize, down: usize) -> Num
-    requires { ⌜ m ≤ 10000000000000000 ⌝ }
+    requires { ⌜ m ≤ 10 ^ characters ⌝ }
     ensures { λ r. ⌜ r ≡ exactOf m up down ⌝ }
 {
     if m == 0 {
@@ -454,7 +460,7 @@ fn exact(m: usize, up: usize, down: usize) -> Num
 
 // m / 10^after · 10^exponent, in units.
 fn scaled(m: usize, after: usize, exponent: Signed) -> Num
-    requires { ⌜ (m ≤ 10000000000000000) × ((after ≤ characters) × SizeBelow 10000000000000000 exponent) ⌝ }
+    requires { ⌜ (m ≤ 10 ^ characters) × ((after ≤ characters) × SizeBelow (10 ^ characters) exponent) ⌝ }
     ensures { λ r. ⌜ r ≡ scaledBy m after exponent ⌝ }
 {
     match exponent {
@@ -468,19 +474,19 @@ fn scaled(m: usize, after: usize, exponent: Signed) -> Num
 fn is_mark(b: u8) -> bool
     ensures { λ r. ⌜ r ≡ isMark b ⌝ }
 {
-    if b == 0x45 { true } else { b == 0x65 }
+    if b == b'E' { true } else { b == b'e' }
 }
 
 // What follows E or e.
 fn exponent_of(s: &[u8]) -> Signed
-    ensures { λ r. ⌜ (r ≡ exponentOf (now (s .entry))) × SizeBelow 10000000000000000 r ⌝ }
+    ensures { λ r. ⌜ (r ≡ exponentOf (now (s .entry))) × SizeBelow (10 ^ characters) r ⌝ }
 {
     signed_whole(s, CHARACTERS)
 }
 
 // What follows `count` digits that made m, `after` of them after the point.
 fn end_of(s: &[u8], count: usize, m: usize, after: usize) -> Num
-    requires { ⌜ (m ≤ 10000000000000000) × (after ≤ characters) ⌝ }
+    requires { ⌜ (m ≤ 10 ^ characters) × (after ≤ characters) ⌝ }
     ensures { λ r. ⌜ r ≡ endOf count m after (now (s .entry)) ⌝ }
 {
     if count == 0 {
@@ -498,7 +504,7 @@ fn end_of(s: &[u8], count: usize, m: usize, after: usize) -> Num
 
 // The digits after a point: `before` digits were before it, and made `whole`.
 fn point_of(s: &[u8], before: usize, whole: usize) -> Num
-    requires { ⌜ (before + length (now s) ≤ characters) × ((whole + 1) * 10 ^ length (now s) ≤ 10000000000000000) ⌝ }
+    requires { ⌜ (before + length (now s) ≤ characters) × ((whole + 1) * 10 ^ length (now s) ≤ 10 ^ characters) ⌝ }
     ensures { λ r. ⌜ r ≡ pointBy before (runOf whole (now (s .entry))) ⌝ }
 {
     let d = digits(s, s.len(), whole);
@@ -547,7 +553,7 @@ pub fn decimal_of(v: &[u8]) -> Signed
     }
 }
 
-fn is_number(n: Signed) -> bool
+pub fn is_number(n: Signed) -> bool
     ensures { λ r. ⌜ r ≡ isNumber n ⌝ }
 {
     match n {

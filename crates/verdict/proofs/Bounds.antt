@@ -7,11 +7,11 @@ use Prim.Native.Nat.{ℕ, _<_, _≤_}
 use native.Mathlib.Omega.{arith}
 use borrow.Author.Tests.{eqb-true, leb-true}
 use lib.Dec.{eqb, leb}
-use Rattle.basics.specs.Limits.{mostRows}
+use Rattle.basics.specs.Limits.{mostRows, lastFrame}
 use Rattle.verdict.specs.declared.RowCount.{RowCount}
 use Rattle.verdict.specs.declared.RowCount.the-variants.{Known}
 use Rattle.verdict.specs.declared.Verdict.{Verdict}
-use Rattle.verdict.specs.Verdict.{perFrame, frameFits, lastFrame, lastRule, lastOffset, alone, possiblePlain, possibleRefusal}
+use Rattle.verdict.specs.Verdict.{perFrame, frameFits, lastRule, lastOffset, alone, possiblePlain, possibleRefusal}
 use Rattle.verdict.specs.Verdict.{possibleBreach, fieldsFit, countFits, rowsFit, possible}
 use Rattle.basics.proofs.Tests.{and-both, or-either}
 

@@ -3,7 +3,7 @@
 use Prim.Native.Nat.{ℕ}
 use mathlib.Core.Bool.{Bool, true, false, cond, _&&_, _||_}
 use lib.Dec.{eqb, leb}
-use Rattle.basics.specs.Limits.{largest, mostRows}
+use Rattle.basics.specs.Limits.{largest, mostRows, lastFrame}
 use Rattle.verdict.specs.declared.RowCount.{RowCount}
 use Rattle.verdict.specs.declared.RowCount.the-variants.{Known, NotKnown}
 use Rattle.verdict.specs.declared.Verdict.{Verdict}
@@ -11,10 +11,6 @@ use Rattle.verdict.specs.declared.Verdict.{Verdict}
 -- The number of the last rule.
 abbrev pub lastRule : ℕ
 lastRule = 39
-
--- The largest frame number.
-abbrev pub lastFrame : ℕ
-lastFrame = 65535
 
 -- The largest offset of a refusal: the size limit.
 abbrev pub lastOffset : ℕ

@@ -6,9 +6,6 @@ ghost use Rattle.verdict.specs.Verdict.{countFits, rowsFit, possible};
 // The number of the last rule.
 pub const LAST_RULE: usize = 39;
 
-// The largest frame number.
-const LAST_FRAME: usize = 65_535;
-
 // The largest offset of a refusal: the size limit.
 const LAST_OFFSET: usize = basics::LARGEST;
 
@@ -46,7 +43,7 @@ fn frame_fits(rule: usize, frame: usize) -> bool
 {
     if is_per_frame(rule) {
         if 1 <= frame {
-            frame <= LAST_FRAME
+            frame <= basics::LAST_FRAME
         } else {
             false
         }

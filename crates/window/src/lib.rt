@@ -5,7 +5,7 @@ ghost use lib.IntN.{pos, _-ℤ_};
 ghost use mathlib.Core.Option.{some};
 ghost use Rattle.value.specs.Number.{unit, sizeLimit, numberOr0};
 ghost use Rattle.window.specs.Window.{fullWindow, takenOff, levelOf, shaded};
-ghost use Rattle.window.specs.Contracts.{Drawable, above, below, rampOf};
+ghost use Rattle.window.specs.Contracts.{Drawable, above, below, rampOf, shadePlaces};
 use value::Function;
 use value::Signed;
 
@@ -15,6 +15,9 @@ pub struct Window {
     pub width: Signed,
     pub function: Function,
 }
+
+// How many places a table of levels has.
+pub const PLACES: usize = 131_072;
 
 // A signed number is above(s) - below(s).
 fn above(s: Signed) -> usize
@@ -79,7 +82,7 @@ fn level(window: Window, plus: usize, minus: usize) -> usize
 // 2^n.
 pub fn power(n: usize) -> usize
     requires { ⌜ n ≤ 17 ⌝ }
-    ensures { λ r. ⌜ (r ≡ 2 ^ n) × ((1 ≤ r) × (r ≤ 131072)) ⌝ }
+    ensures { λ r. ⌜ (r ≡ 2 ^ n) × ((1 ≤ r) × (r ≤ shadePlaces)) ⌝ }
 {
     let mut r: usize = 1;
     for i in 0..n {

@@ -20,7 +20,7 @@ fn write_roomy(bytes: &[u8], rows: &mut [u32], target: &mut [u8]) -> CanonicalAn
     ensures { λ r. ⌜ Held r (now (target .exit)) ⌝ }
     ensures { λ r. ⌜ Roomy r ⌝ }
 {
-    canonical::byte_bounds(bytes);
+    canonical::knows_bytes(bytes);
     canonical::write_canonical(bytes, rows, target)
 }
 

@@ -7,7 +7,7 @@ ghost use lib.ListN.{length};
 ghost use Rattle.verdict.specs.Verdict.{writable};
 ghost use Rattle.slip.specs.Slip.{slipOf};
 ghost use Rattle.conformance.specs.Judging.{verdictOf};
-ghost use Rattle.judge_small.specs.Contracts.{roomyOf};
+ghost use Rattle.judge_small.specs.Printed.{judgePrinted};
 use room::input;
 use verdict::Verdict;
 
@@ -23,7 +23,7 @@ fn slip_of(v: Verdict) -> [u8; 17]
 // The slip of a data set's verdict.
 fn slip_for(bytes: &[u8]) -> [u8; 17]
     requires { ⌜ length (now bytes) ≤ 65536 ⌝ }
-    ensures { λ r. ⌜ r ≡ slipOf (verdictOf (roomyOf (now (bytes .entry)))) ⌝ }
+    ensures { λ r. ⌜ r ≡ slipOf (verdictOf (judgePrinted (now (bytes .entry)))) ⌝ }
 {
     slip_of(conformance::verdict_of(judge_small::judge_small(bytes)))
 }

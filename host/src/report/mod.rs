@@ -3,6 +3,7 @@
 mod letter;
 mod page;
 mod sheet;
+mod target;
 
 use std::io::{self, Write};
 use std::path::{Path, PathBuf};
@@ -15,20 +16,24 @@ use serde::{Deserialize, Serialize};
 use crate::buffer::NoRoom;
 use crate::codes::Coded;
 use crate::files;
-use crate::finding::{Found, Inputs};
+use crate::finding::{Finding, Found, Inputs};
 use crate::found;
 use crate::head::{Form, Judged};
 use crate::identity::Identity;
+use crate::image::{Format, Image};
 use crate::judging;
 use crate::library::STACK;
 use crate::looking::{self, What};
 use crate::names::tags;
-use crate::output::{line, note, note_of, note_unwritten, Status};
-use crate::picture::{self, Failure, Image, Run};
+use crate::output::{line, may_write, note, note_of, Status};
+use crate::picture;
+use crate::results::Failure;
+use crate::run::{self, Run};
 use crate::sampling;
 use crate::sentences;
 use crate::settling::Settling;
-use crate::values::counted;
+use crate::values::{counted, listed};
+use target::{Kind, Target};
 
 /// What `luux report` was asked.
 pub struct Wanted {
@@ -54,7 +59,7 @@ struct Picture {
 
 impl Picture {
     fn of(image: &Image<u8>, about: String) -> Result<Picture, Failure> {
-        Ok(Picture { width: image.width(), height: image.height(), png: image.encoded(picture::Format::Png)?, about })
+        Ok(Picture { width: image.width(), height: image.height(), png: image.encoded(Format::Png)?, about })
     }
 }
 
@@ -101,12 +106,23 @@ enum End {
 }
 
 impl End {
+    const ALL: [End; 5] = [End::Accepted, End::Refused, End::Unread, End::Other, End::Arriving];
+
+    /// What it is called on the page, as in the summary.
     fn word(self) -> &'static str {
+        match self {
+            End::Unread => "could not be read",
+            other => other.verdict(),
+        }
+    }
+
+    /// What it is called in the table, as in the JSON of `luux judge`.
+    fn verdict(self) -> &'static str {
         match self {
             End::Accepted => "accepted",
             End::Refused => "refused",
             End::Other => "not ours",
-            End::Unread => "not read",
+            End::Unread => "none",
             End::Arriving => "arriving",
         }
     }
@@ -220,10 +236,10 @@ fn pictures(run: &mut Run) -> Result<Pictures, Failure> {
     Ok(Pictures { frames: run.frames(), size: run.size(), thumbnails, plot: Some(Picture::of(&image, about)?) })
 }
 
-fn looked(judged: picture::Looked) -> Looked {
+fn looked(judged: run::Looked) -> Looked {
     let mut other = None;
     let seen = judged.and_then(|(judged, run)| match run.map(|mut run| pictures(&mut run)) {
-        Ok(Err(Failure::Refused(text) | Failure::Trouble(text))) => Err(text),
+        Ok(Err(Failure::Refused(text) | Failure::Other(text) | Failure::Trouble(text))) => Err(text),
         Ok(Ok(pictures)) => Ok((judged, pictures)),
         Err(what) => {
             other = what;
@@ -283,70 +299,60 @@ fn entries(wanted: &Wanted, found: &[Found]) -> Vec<Entry> {
     made.into_iter().map(|(_, entry)| entry).collect()
 }
 
-/// The files, without those that are written.
-fn find(wanted: &Wanted, written: &[&Path]) -> Vec<Found> {
-    wanted
-        .inputs
-        .find(None)
-        .found
-        .into_iter()
-        .filter(|one| !written.iter().any(|path| files::is_same(&one.path, path)))
-        .collect()
-}
-
-fn write(path: &Path, content: &[u8]) -> bool {
-    match files::write_whole(path, content, false) {
-        Ok(()) => true,
-        Err(error) => {
-            note_unwritten(path, &error);
-            false
+/// The files. A page or a table that is written again is no run, unless it was named itself.
+fn find(wanted: &Wanted, targets: &[Target]) -> Finding {
+    let mut finding = wanted.inputs.find(None);
+    for one in std::mem::take(&mut finding.found) {
+        match !one.named && targets.iter().any(|target| target.is_older(&one.path)) {
+            true => finding.skip(&one.path, "luux writes this file"),
+            false => finding.found.push(one),
         }
     }
+    finding
 }
 
 /// Writes the page, and the table if it is wanted.
 pub fn run(wanted: &Wanted, out: &mut dyn Write) -> io::Result<Status> {
-    let table = wanted.output.with_extension("csv");
-    let found = find(wanted, &[&wanted.output, &table]);
-    if found.is_empty() {
+    let targets = Target::all(wanted);
+    let finding = find(wanted, &targets);
+    // They are written at the end, perhaps after hours; it is better to refuse now.
+    if !targets.iter().all(|target| finding.found.iter().all(|one| may_write(&target.path, &one.path))) {
+        return Ok(Status::Failed);
+    }
+    if let Some((target, text)) = target::objection(&targets) {
+        note_of(&target.path, &format!("cannot be written: {text}"));
+        return Ok(Status::Failed);
+    }
+    if finding.found.is_empty() {
         note("nothing was reported: no files were found");
         return Ok(Status::Failed);
     }
-    // The page is written at the end, perhaps after hours; it is better to refuse now.
-    if let Some(run) = wanted.inputs.named.iter().find(|path| path.is_file() && files::is_same(path, &wanted.output)) {
-        note_of(run, "cannot be written: it is one of the runs; name another page");
-        return Ok(Status::Failed);
-    }
-    let entries = entries(wanted, &found);
+    let entries = entries(wanted, &finding.found);
     let senders = senders(&entries);
     let count = |end| entries.iter().filter(|entry| entry.end() == end).count();
     let mut about = format!(
-        "{} of {}: {} accepted, {} refused, {} could not be read",
+        "{} of {}: {} accepted, {} refused, {} {}",
         counted(entries.len(), "file"),
         counted(senders.len(), "sender"),
         count(End::Accepted),
         count(End::Refused),
         count(End::Unread),
+        End::Unread.word(),
     );
-    for end in [End::Other, End::Arriving] {
-        if count(end) > 0 {
-            about.push_str(&format!(", {} {}", count(end), end.word()));
+    let more = [End::Other, End::Arriving].map(|end| (count(end), end.word()));
+    about.push_str(&listed(&more));
+    about.push_str(&listed(&finding.passed_over()));
+    for target in &targets {
+        let written = match target.kind {
+            Kind::Page => target.write(page::made(wanted, &entries, &senders).as_bytes()),
+            Kind::Table => sheet::made(&entries, wanted.patient).and_then(|rows| target.write(&rows)),
+        };
+        if let Err(trouble) = written {
+            note_of(&target.path, &format!("cannot be written: {trouble}"));
+            return Ok(Status::Failed);
         }
-    }
-    let page = page::made(wanted, &entries, &senders);
-    if !write(&wanted.output, page.as_bytes()) {
-        return Ok(Status::Failed);
-    }
-    line(out, &wanted.output, &about)?;
-    if wanted.csv {
-        match sheet::made(&entries, wanted.patient) {
-            Ok(rows) if write(&table, &rows) => line(out, &table, &counted(entries.len(), "row"))?,
-            Ok(_) => return Ok(Status::Failed),
-            Err(trouble) => {
-                note_of(&table, &format!("cannot be made: {trouble}"));
-                return Ok(Status::Failed);
-            }
-        }
+        let rows = counted(entries.len(), "row");
+        line(out, &target.path, if target.kind == Kind::Page { &about } else { &rows })?;
     }
     Ok(Status::Fine)
 }

@@ -80,7 +80,7 @@ fn tiles(entries: &[Entry], senders: &[Sent]) -> String {
         tile("all", entries.len(), if entries.len() == 1 { "file" } else { "files" }),
         tile("accepted", count(End::Accepted), "accepted"),
         tile("refused", count(End::Refused), "refused"),
-        tile("unread", count(End::Unread), "not read"),
+        tile("unread", count(End::Unread), End::Unread.word()),
         tile("all", count(End::Other), "not ours"),
         // Only with --settle are files arriving.
         match count(End::Arriving) {
@@ -172,7 +172,7 @@ fn run(place: usize, entry: &Entry, sender: Option<usize>, patient: bool) -> Str
          <tr><th scope=\"row\">{named}</th><td>{from}</td><td><span class=\"verdict\">{word}</span></td><td>{by}</td>\
          <td class=\"number\">{frame}</td><td class=\"number\">{size}</td><td class=\"time\">{time}</td></tr>\n\
          <tr class=\"details\"><td colspan=\"7\">{details}</td></tr>\n</tbody>\n",
-        class = entry.end().word().replace(' ', "-"),
+        class = entry.end().verdict().replace(' ', "-"),
         file = text(&entry.path),
         sender = sender.map_or_else(String::new, |number| number.to_string()),
         sorted = text(&format!("{} {}", from.institution, from.station)),
@@ -196,8 +196,7 @@ fn options(values: impl IntoIterator<Item = (String, String)>) -> String {
 /// What the runs can be filtered by.
 fn filters(entries: &[Entry], senders: &[Sent]) -> String {
     let by: BTreeSet<(u32, u32)> = entries.iter().filter_map(Entry::by).collect();
-    let verdicts = ["accepted", "refused", "not read", "not ours", "arriving"]
-        .map(|word| (String::from(word), String::from(word)));
+    let verdicts = End::ALL.map(|end| (String::from(end.word()), String::from(end.word())));
     let senders = senders.iter().enumerate().map(|(number, sent)| {
         let (one, other) = (&sent.sender.institution, &sent.sender.station);
         let shown = [one, other].into_iter().filter(|name| !name.is_empty()).cloned().collect::<Vec<_>>().join(", ");
@@ -236,6 +235,10 @@ fn letters(entries: &[Entry], senders: &[Sent], patient: bool) -> String {
     }
 }
 
+/// How every page starts.
+pub const START: &str = "<!DOCTYPE html>\n<html lang=\"en\"><head><meta charset=\"utf-8\">\n\
+    <meta http-equiv=\"Content-Security-Policy\" content=\"default-src 'none'; img-src data:; style-src ";
+
 /// The whole page.
 pub fn made(wanted: &Wanted, entries: &[Entry], senders: &[Sent]) -> String {
     let folders: Vec<String> = wanted.inputs.named.iter().map(|path| text(&files::printed(path))).collect();
@@ -251,8 +254,7 @@ pub fn made(wanted: &Wanted, entries: &[Entry], senders: &[Sent]) -> String {
         .collect();
     let lines: String = senders.iter().enumerate().map(|(number, sent)| sender_row(number, sent, entries)).collect();
     format!(
-        "<!DOCTYPE html>\n<html lang=\"en\"><head><meta charset=\"utf-8\">\n\
-         <meta http-equiv=\"Content-Security-Policy\" content=\"default-src 'none'; img-src data:; style-src {style_hash}; script-src {script_hash}; \
+        "{START}{style_hash}; script-src {script_hash}; \
          base-uri 'none'; form-action 'none'\">\n\
          <meta name=\"viewport\" content=\"width=device-width, initial-scale=1\"><title>luux: {count}</title>\n<style>{STYLE}</style></head>\n<body>\n\
          <header><h1>Report on {count}</h1><p>{folders} &middot; made {now} &middot; luux {version}</p>\
@@ -285,3 +287,28 @@ const HEADS: [(&str, &str); 7] = [
     ("frames", "Frames"),
     ("acquired", "Acquired"),
 ];
+
+#[cfg(test)]
+mod tests {
+    use super::*;
+
+    #[test]
+    fn dates_and_times() {
+        assert_eq!(when("20240305050607"), "2024-03-05 05:06:07");
+        assert_eq!(when("20240305050607.123+0100"), "2024-03-05 05:06:07");
+        for other in ["", "2024", "2024030505060x", "\u{E9}0240305050607"] {
+            assert_eq!(when(other), other);
+        }
+    }
+
+    #[test]
+    fn nothing_becomes_markup() {
+        let made = given("<b a=\"1\" c='2'>&");
+        assert!(made.starts_with("<bdi>&lt;b a=&quot;1&quot;") && made.ends_with("&gt;&amp;</bdi>"), "{made}");
+        assert_eq!((named(""), named("A")), (String::from("<i>not named</i>"), String::from("<bdi>A</bdi>")));
+        let sender =
+            |institution: &str, station: &str| Sender { institution: institution.into(), station: station.into() };
+        assert_eq!(both(&sender("A", "B")), "<bdi>A</bdi>, <bdi>B</bdi>");
+        assert_eq!((both(&sender("", "B")), both(&sender("", ""))), (named("B"), named("")));
+    }
+}

@@ -1,7 +1,7 @@
 -- Each answer leads to its own numbers: those of the data set inside, or a code alone.
 use mathlib.Core.Path.{ap, sym, subst, _∙_}
-use Rattle.file.specs.declared.JudgeFileAnswer.{JudgeFileAnswer}
-use Rattle.file.specs.File.{judgeFields}
+use Rattle.file_judge.specs.declared.JudgeFileAnswer.{JudgeFileAnswer}
+use Rattle.file_judge.specs.JudgeFile.{judgeFields}
 use Rattle.c_answers.specs.Host.{hosted}
 use Rattle.c_answers.specs.Contracts.{Fits32}
 use borrow.Author.Needs.{needs}

@@ -1,7 +1,7 @@
 -- Each answer leads to its own numbers: those of the data set inside, or a code alone.
 use mathlib.Core.Path.{ap, sym, subst, _∙_}
-use Rattle.file.specs.declared.ReadFileAnswer.{ReadFileAnswer}
-use Rattle.file.specs.File.{readFields}
+use Rattle.file_read.specs.declared.ReadFileAnswer.{ReadFileAnswer}
+use Rattle.file_read.specs.ReadFile.{readFields}
 use Rattle.c_answers.specs.Host.{hosted}
 use Rattle.c_answers.specs.Contracts.{Fits32}
 use borrow.Author.Needs.{needs}

@@ -1,7 +1,7 @@
 -- Each answer leads to its own numbers: those of the data set inside, or a code alone.
 use mathlib.Core.Path.{ap, sym, subst, _∙_}
-use Rattle.file.specs.declared.ShowFileAnswer.{ShowFileAnswer}
-use Rattle.file.specs.File.{showFields}
+use Rattle.file_show.specs.declared.ShowFileAnswer.{ShowFileAnswer}
+use Rattle.file_show.specs.ShowFile.{showFields}
 use Rattle.c_answers.specs.Host.{hosted}
 use Rattle.c_answers.specs.Contracts.{Fits32}
 use borrow.Author.Needs.{needs}

@@ -1,7 +1,7 @@
 -- Each answer leads to its own numbers.
 use mathlib.Core.Path.{ap, sym}
-use Rattle.file.specs.declared.Start.{Start}
-use Rattle.file.specs.File.{startFields}
+use Rattle.file_read.specs.declared.Start.{Start}
+use Rattle.file_read.specs.ReadFile.{startFields}
 use Rattle.c_files.specs.Start.{partOf}
 use borrow.Author.Needs.{needs}
 use Rattle.c_files.proofs.start_numbers.Statement.{statement}

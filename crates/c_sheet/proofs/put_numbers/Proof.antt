@@ -3,19 +3,20 @@ use Prim.Native.Nat.{_-_, _≤_}
 use lib.ListN.{length, getD}
 use Rattle.pixel.specs.Contracts.{painted}
 use Rattle.pixel.proofs.Laws.{full, painted-more, painted-length}
-use Rattle.sheet.specs.Sheet.{numbersIn}
+use Rattle.sheet.specs.Sheet.{sheetSize, numbersIn}
 use mathlib.Core.Path.{_≡_, refl, ap, _∙_}
 use native.Mathlib.Omega.{arith}
+use borrow.Author.Needs.{needs}
 use Rattle.c_sheet.proofs.put_numbers.Statement.{statement}
 use Rattle.c_sheet.proofs.put_numbers.Tie as tie
 
 abbrev Inv-loop : tie.InvT-loop
 Inv-loop t buffer₀ k₀ buffer k =
-    (k ≤ 260) × (buffer ≡ painted (λ i. getD (numbersIn t) i 0) k buffer₀)
+    (k ≤ sheetSize) × (buffer ≡ painted (λ i. getD (numbersIn t) i 0) k buffer₀)
 
 abbrev μ-loop : tie.MeasureT-loop
 μ-loop t buffer₀ k₀ buffer k =
-    260 - k
+    sheetSize - k
 
 loop-holds : tie.Need-loop-holds Inv-loop μ-loop
 unfolding painted
@@ -24,8 +25,7 @@ loop-holds c =
 
 number-at-requires : tie.Need-number-at-requires Inv-loop μ-loop
 number-at-requires c κs =
-    let entry = c .before .before .before in
-    (entry .pre .0, c .loop-test .taken)
+    search needs
 
 mul-buffer : tie.Need-mul-buffer Inv-loop μ-loop
 mul-buffer c =
@@ -34,7 +34,7 @@ mul-buffer c =
 slice-write-buffer : tie.Need-slice-write-buffer Inv-loop μ-loop
 slice-write-buffer c =
     let entry = c .before .before .before .before in
-    omega (arith, ap length (c .before .before .loop .inv .1) ∙ painted-length _ _ _, entry .pre .1, c .before .loop-test .taken)
+    omega (arith, ap length (c .before .before .loop .inv .1) ∙ painted-length _ _ _, entry .pre, c .before .loop-test .taken)
 
 add-k : tie.Need-add-k Inv-loop μ-loop
 add-k c =

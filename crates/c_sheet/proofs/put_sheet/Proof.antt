@@ -1,6 +1,7 @@
 -- Nothing is written unless all 260 numbers fit.
 use lib.ListN.{length}
 use borrow.Author.Tests.{le-leb, lt-leb}
+use Rattle.sheet.specs.Sheet.{sheetSize}
 use Rattle.c_sheet.proofs.Put.{sheet-put, sheet-kept}
 use mathlib.Core.Path.{sym, _∙_}
 use native.Mathlib.Omega.{arith}
@@ -10,8 +11,7 @@ use Rattle.c_sheet.proofs.put_sheet.Tie as tie
 
 put-numbers-requires : tie.Need-put-numbers-requires
 put-numbers-requires c κs =
-    let entry = c .before .before .before in
-    (entry .pre, c .before .if1 .taken)
+    c .before .if1 .taken
 
 same-length : tie.Need-same-length
 same-length c =
@@ -21,13 +21,13 @@ returns : tie.Need-returns
 returns c =
     let at-if1 = c .before .before .before .before in
     let entry = at-if1 .before .before in (
-      sym (le-leb 260 (length (entry .args .buffer .now)) (at-if1 .if1 .taken)),
+      sym (le-leb sheetSize (length (entry .args .buffer .now)) (at-if1 .if1 .taken)),
       c .before .before .put-numbers .ensures ∙ sheet-put (entry .args .t) (entry .args .buffer .now) (entry .pre) (at-if1 .if1 .taken),
     )
 
 returns-2 : tie.Need-returns-2
 returns-2 c = (
-  sym (lt-leb 260 (length (c .before .before .args .buffer .now)) (omega (arith, c .if1 .left))),
+  sym (lt-leb sheetSize (length (c .before .before .args .buffer .now)) (omega (arith, c .if1 .left))),
   sheet-kept (c .before .before .args .t) (c .before .before .args .buffer .now) (omega (arith, c .if1 .left)),
 )
 

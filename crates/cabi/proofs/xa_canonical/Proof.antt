@@ -9,8 +9,8 @@ use borrow.Author.Needs.{needs}
 use Rattle.cabi.proofs.xa_canonical.Statement.{statement}
 use Rattle.cabi.proofs.xa_canonical.Tie as tie
 
-byte-bounds-requires : tie.Need-byte-bounds-requires
-byte-bounds-requires c κs = search needs
+knows-bytes-requires : tie.Need-knows-bytes-requires
+knows-bytes-requires c κs = search needs
 
 write-canonical-requires : tie.Need-write-canonical-requires
 write-canonical-requires c κs = search needs
@@ -18,9 +18,9 @@ write-canonical-requires c κs = search needs
 canonical-numbers-requires : tie.Need-canonical-numbers-requires
 canonical-numbers-requires c κs =
     let at-write-canonical = c .before .before .before .before in
-    let at-byte-bounds = at-write-canonical .before .before .before in
+    let at-knows-bytes = at-write-canonical .before .before .before in
     subst (λ (a : CanonicalAnswer). RewrittenFits32 (fieldsOf a)) (sym (at-write-canonical .write-canonical .ensures .0 .same))
-    (canonical-fits _ _ _ (at-byte-bounds .byte-bounds .ensures))
+    (canonical-fits _ _ _ (at-knows-bytes .knows-bytes .ensures))
 
 same-length : tie.Need-same-length
 same-length c = search needs
@@ -40,7 +40,7 @@ pub xa-canonical-spec : {M : Type 1} → statement M
 xa-canonical-spec =
     tie.close
     (tie.spec
-    byte-bounds-requires
+    knows-bytes-requires
     write-canonical-requires
     canonical-numbers-requires
     same-length

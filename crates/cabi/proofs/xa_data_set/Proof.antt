@@ -1,7 +1,7 @@
 -- The answer is that of `start_of`.
 use mathlib.Core.Path.{ap, _∙_}
-use Rattle.file.specs.declared.Start.{Start}
-use Rattle.file.specs.File.{startFields}
+use Rattle.file_read.specs.declared.Start.{Start}
+use Rattle.file_read.specs.ReadFile.{startFields}
 use Rattle.c_files.specs.Start.{partOf}
 use borrow.Author.Needs.{needs}
 use Rattle.cabi.proofs.xa_data_set.Statement.{statement}

@@ -1,8 +1,8 @@
 -- The answer is that of `judge_file_counted`, and its numbers fit 32 bits since those of every answer are small.
 use mathlib.Core.Path.{ap, sym, subst, _∙_}
-use Rattle.file.specs.declared.CountedFile.{CountedFile}
-use Rattle.file.specs.File.{judgeFields}
-use Rattle.file.specs.Searches.{countedFields}
+use Rattle.file_judge.specs.declared.CountedFile.{CountedFile}
+use Rattle.file_judge.specs.JudgeFile.{judgeFields}
+use Rattle.file_judge.specs.Searches.{countedFields}
 use Rattle.c_answers.specs.Contracts.{Fits32}
 use Rattle.c_judge.specs.Judged.{reported}
 use Rattle.c_files.proofs.Fits.{judge-file-fits}

@@ -1,7 +1,7 @@
 -- The answer is that of `read_file`, and its numbers fit 32 bits since those of every answer are small.
 use mathlib.Core.Path.{ap, sym, subst, _∙_}
-use Rattle.file.specs.declared.ReadFileAnswer.{ReadFileAnswer}
-use Rattle.file.specs.File.{readFields}
+use Rattle.file_read.specs.declared.ReadFileAnswer.{ReadFileAnswer}
+use Rattle.file_read.specs.ReadFile.{readFields}
 use Rattle.c_answers.specs.Host.{hosted}
 use Rattle.c_answers.specs.Contracts.{Fits32}
 use Rattle.c_files.proofs.Fits.{read-file-fits}

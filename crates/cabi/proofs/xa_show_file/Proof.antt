@@ -1,7 +1,7 @@
 -- The answer is that of `show_file`, and its numbers fit 32 bits since those of every answer are small.
 use mathlib.Core.Path.{ap, sym, subst, _∙_}
-use Rattle.file.specs.declared.ShowFileAnswer.{ShowFileAnswer}
-use Rattle.file.specs.File.{showFields}
+use Rattle.file_show.specs.declared.ShowFileAnswer.{ShowFileAnswer}
+use Rattle.file_show.specs.ShowFile.{showFields}
 use Rattle.c_answers.specs.Host.{hosted}
 use Rattle.c_answers.specs.Contracts.{Fits32}
 use Rattle.c_files.proofs.Fits.{show-file-fits}

@@ -12,8 +12,8 @@ use Rattle.canonical.proofs.Answers.{ready, fitting-all, short-answer, 
 use Rattle.canonical.proofs.write_canonical.Statement.{statement}
 use Rattle.canonical.proofs.write_canonical.Tie as tie
 
-byte-bounds-requires : tie.Need-byte-bounds-requires
-byte-bounds-requires c κs = search needs
+knows-bytes-requires : tie.Need-knows-bytes-requires
+knows-bytes-requires c κs = search needs
 
 read-requires : tie.Need-read-requires
 read-requires c κs = search needs
@@ -33,60 +33,60 @@ enum-known-n c = search needs
 mul-end : tie.Need-mul-end
 mul-end c =
     let at-read = c .before .before .before .before .before in
-    let at-byte-bounds = at-read .before .before in
-    let entry = at-byte-bounds .before .before .before .before in
+    let at-knows-bytes = at-read .before .before in
+    let entry = at-knows-bytes .before .before .before .before in
     omega (
       arith,
       ready (entry .args .bytes .now) (entry .args .rows .now) (at-read .read .last .1 .0) (c .before .n .given .0 .0)
-          (at-byte-bounds .byte-bounds .ensures) (sym (c .before .n .given .1) ∙ at-read .read .ensures .0 .same)
+          (at-knows-bytes .knows-bytes .ensures) (sym (c .before .n .given .1) ∙ at-read .read .ensures .0 .same)
           (at-read .read .ensures .1) .room,
     )
 
 slice-reshare-prefix-table : tie.Need-slice-reshare-prefix-table
 slice-reshare-prefix-table c =
     let at-read = c .before .before .before .before .before in
-    let at-byte-bounds = at-read .before .before in
-    let entry = at-byte-bounds .before .before .before .before in
+    let at-knows-bytes = at-read .before .before in
+    let entry = at-knows-bytes .before .before .before .before in
     ready (entry .args .bytes .now) (entry .args .rows .now) (at-read .read .last .1 .0) (c .before .n .given .0 .0)
-    (at-byte-bounds .byte-bounds .ensures) (sym (c .before .n .given .1) ∙ at-read .read .ensures .0 .same)
+    (at-knows-bytes .knows-bytes .ensures) (sym (c .before .n .given .1) ∙ at-read .read .ensures .0 .same)
     (at-read .read .ensures .1) .room
 
 slice-aggregate-table : tie.Need-slice-aggregate-table
 slice-aggregate-table c =
     let at-read = c .before .before .before .before .before .before in
-    let at-byte-bounds = at-read .before .before in
-    let entry = at-byte-bounds .before .before .before .before in
+    let at-knows-bytes = at-read .before .before in
+    let entry = at-knows-bytes .before .before .before .before in
     sym (length-take-le (width * c .before .before .n .given .0 .0) (at-read .read .last .1 .0) (ready (entry .args .bytes .now)
-    (entry .args .rows .now) (at-read .read .last .1 .0) (c .before .before .n .given .0 .0) (at-byte-bounds .byte-bounds .ensures)
+    (entry .args .rows .now) (at-read .read .last .1 .0) (c .before .before .n .given .0 .0) (at-knows-bytes .knows-bytes .ensures)
     (sym (c .before .before .n .given .1) ∙ at-read .read .ensures .0 .same) (at-read .read .ensures .1) .room))
 
 lacks-room-requires : tie.Need-lacks-room-requires
 lacks-room-requires c κs =
     let at-read = c .before .before .before .before .before .before in
-    let at-byte-bounds = at-read .before .before in
-    let entry = at-byte-bounds .before .before .before .before in
+    let at-knows-bytes = at-read .before .before in
+    let entry = at-knows-bytes .before .before .before .before in
     ready (entry .args .bytes .now) (entry .args .rows .now) (at-read .read .last .1 .0) (c .before .before .n .given .0 .0)
-    (at-byte-bounds .byte-bounds .ensures) (sym (c .before .before .n .given .1) ∙ at-read .read .ensures .0 .same)
+    (at-knows-bytes .knows-bytes .ensures) (sym (c .before .before .n .given .1) ∙ at-read .read .ensures .0 .same)
     (at-read .read .ensures .1) .sized
 
 span-requires : tie.Need-span-requires
 span-requires c κs =
     let at-n = c .before .before .before .before in
     let at-read = at-n .before .before .before .before in
-    let at-byte-bounds = at-read .before .before in
-    let entry = at-byte-bounds .before .before .before .before in
+    let at-knows-bytes = at-read .before .before in
+    let entry = at-knows-bytes .before .before .before .before in
     let r = ready (entry .args .bytes .now) (entry .args .rows .now) (at-read .read .last .1 .0) (at-n .n .given .0 .0)
-    (at-byte-bounds .byte-bounds .ensures) (sym (at-n .n .given .1) ∙ at-read .read .ensures .0 .same) (at-read .read .ensures .1) in
+    (at-knows-bytes .knows-bytes .ensures) (sym (at-n .n .given .1) ∙ at-read .read .ensures .0 .same) (at-read .read .ensures .1) in
     (r .sized, (omega arith, omega (arith, r .count)))
 
 put-members-requires : tie.Need-put-members-requires
 put-members-requires c κs =
     let at-n = c .before .before .before .before .before in
     let at-read = at-n .before .before .before .before in
-    let at-byte-bounds = at-read .before .before in
-    let entry = at-byte-bounds .before .before .before .before in
+    let at-knows-bytes = at-read .before .before in
+    let entry = at-knows-bytes .before .before .before .before in
     let r = ready (entry .args .bytes .now) (entry .args .rows .now) (at-read .read .last .1 .0) (at-n .n .given .0 .0)
-    (at-byte-bounds .byte-bounds .ensures) (sym (at-n .n .given .1) ∙ at-read .read .ensures .0 .same) (at-read .read .ensures .1) in (
+    (at-knows-bytes .knows-bytes .ensures) (sym (at-n .n .given .1) ∙ at-read .read .ensures .0 .same) (at-read .read .ensures .1) in (
       r .sized,
       fitting-all (entry .args .bytes .now) (entry .args .target .now) r
           (sym (c .before .before .lacks-room .ensures) ∙ c .before .if1 .left),
@@ -132,10 +132,10 @@ returns-4 : tie.Need-returns-4
 returns-4 c =
     let at-n = c .before .before .before .before .before in
     let at-read = at-n .before .before .before .before in
-    let at-byte-bounds = at-read .before .before in
-    let entry = at-byte-bounds .before .before .before .before in
+    let at-knows-bytes = at-read .before .before in
+    let entry = at-knows-bytes .before .before .before .before in
     let r = ready (entry .args .bytes .now) (entry .args .rows .now) (at-read .read .last .1 .0) (at-n .n .given .0 .0)
-    (at-byte-bounds .byte-bounds .ensures) (sym (at-n .n .given .1) ∙ at-read .read .ensures .0 .same) (at-read .read .ensures .1) in
+    (at-knows-bytes .knows-bytes .ensures) (sym (at-n .n .given .1) ∙ at-read .read .ensures .0 .same) (at-read .read .ensures .1) in
     let a = short-answer (entry .args .bytes .now) (entry .args .rows .now) (entry .args .target .now) (at-n .n .given .0 .0)
     (sym (at-n .n .given .1) ∙ at-read .read .ensures .0 .same) (r .count) (c .span .result) (c .span .ensures .0)
     (sym (c .before .before .lacks-room .ensures) ∙ c .before .if1 .taken) in
@@ -153,10 +153,10 @@ returns-5 c =
     let at-lacks-room = at-if1 .before in
     let at-n = at-lacks-room .before .before .before in
     let at-read = at-n .before .before .before .before in
-    let at-byte-bounds = at-read .before .before in
-    let entry = at-byte-bounds .before .before .before .before in
+    let at-knows-bytes = at-read .before .before in
+    let entry = at-knows-bytes .before .before .before .before in
     let r = ready (entry .args .bytes .now) (entry .args .rows .now) (at-read .read .last .1 .0) (at-n .n .given .0 .0)
-    (at-byte-bounds .byte-bounds .ensures) (sym (at-n .n .given .1) ∙ at-read .read .ensures .0 .same) (at-read .read .ensures .1) in
+    (at-knows-bytes .knows-bytes .ensures) (sym (at-n .n .given .1) ∙ at-read .read .ensures .0 .same) (at-read .read .ensures .1) in
     let a = done-answer (entry .args .bytes .now) (entry .args .rows .now) (entry .args .target .now) (at-n .n .given .0 .0)
     (sym (at-n .n .given .1) ∙ at-read .read .ensures .0 .same) (r .count) (c .before .before .put-members .result) _
     (c .before .before .put-members .ensures) (sym (at-lacks-room .lacks-room .ensures) ∙ at-if1 .if1 .left) in
@@ -166,7 +166,7 @@ pub write-canonical-spec : {M : Type 1} → statement M
 write-canonical-spec =
     tie.close
     (tie.spec
-    byte-bounds-requires
+    knows-bytes-requires
     read-requires
     enum-told
     enum-known-code

@@ -1,6 +1,7 @@
 -- Each answer of judging leads to its own; an accepted object leaves its rows in the buffer, and the frame is compared from them.
 use Prim.Native.Nat.{_*_}
 use lib.Seq.{length-take-le}
+use Rattle.dataset.specs.Answer.{width}
 use Rattle.conformance.specs.declared.JudgeAnswer.the-variants as judged
 use Rattle.display.proofs.Judged as laws
 use Rattle.compare.proofs.Answers as answers
@@ -42,7 +43,7 @@ mul-end c =
     let t = laws.after-judging (entry .args .bytes .now) (entry .args .rows .now) (at-judge .judge .last .1 .0)
     (c .before .count2 .given .0 .0) (sym (c .before .count2 .given .1) ∙ at-judge .judge .ensures .0 .same)
     (at-judge .judge .ensures .1) .0 in
-    omega (arith, t .1 .size, t .1 .few, length-take-le (7 * c .before .count2 .given .0 .0) (at-judge .judge .last .1 .0) (t .0))
+    omega (arith, t .1 .size, t .1 .few, length-take-le (width * c .before .count2 .given .0 .0) (at-judge .judge .last .1 .0) (t .0))
 
 slice-reshare-prefix-compare-table : tie.Need-slice-reshare-prefix-compare-table
 slice-reshare-prefix-compare-table c =

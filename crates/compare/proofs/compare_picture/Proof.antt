@@ -16,8 +16,17 @@ plan-for-requires c κs =
 compare-planned-requires : tie.Need-compare-planned-requires
 compare-planned-requires c κs =
     let entry = c .before .before .before .before .before in
-    let p = entry .pre in
-    (p .0, (p .1 .0, (c .before .scene-of .ensures, (c .plan-for .ensures, (p .1 .1 .0, (p .1 .1 .1 .0, p .1 .1 .1 .1))))))
+    let p = entry .pre in (
+      record {
+        table = p .0;
+        object = p .1 .0;
+        scene = c .before .scene-of .ensures;
+        plan = c .plan-for .ensures;
+        low = p .1 .1 .0;
+        high = p .1 .1 .1 .0;
+      },
+      p .1 .1 .1 .1,
+    )
 
 returns : tie.Need-returns
 returns c =

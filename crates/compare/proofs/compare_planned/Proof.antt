@@ -4,13 +4,14 @@ use mathlib.Core.Bool.{true}
 use lib.ListN.{length-replicate}
 use Rattle.node.specs.Nodes.{nodesOf}
 use Rattle.element.specs.Elements.{valueAt}
+use Rattle.window.specs.Contracts.{shadePlaces}
 use Rattle.pixel.specs.Pixel.{samplesOf}
+use Rattle.pixel.specs.Contracts.{longestRow}
 use Rattle.lines.specs.declared.Shades.{Shades}
 use Rattle.lines.specs.Contracts.{shadesOf}
 use Rattle.display.specs.Contracts.{shadeBy}
 use Rattle.display.specs.Show.{pictureOf}
-use Rattle.display.proofs.Scenes as scenes
-use Rattle.sheet.proofs.Scenes as counted
+use Rattle.display.proofs.Planned as planned
 use Rattle.differences.specs.Differences.{isOff}
 use Rattle.differences.specs.Contracts.{along, noneOff, Against}
 use Rattle.differences.proofs.Places.{met-list}
@@ -27,9 +28,8 @@ slice-aggregate-fill c =
 fill-requires : tie.Need-fill-requires
 fill-requires c κs =
     let entry = c .before .before .before .before .before .before in
-    let b = scenes.based (entry .args .bytes .now) (entry .args .n) (entry .args .frame) (entry .pre .1 .0) (entry .pre .1 .1 .1 .1 .0)
-    (entry .pre .1 .1 .1 .1 .1 .0) (entry .args .c) (entry .pre .1 .1 .0) in
-    (entry .pre .1 .1 .1 .0 .drawable, (b .shape .stored-some, (b .shape .stored-most, length-replicate {A = ℕ} 131072 0)))
+    let b = planned.based (entry .pre .0) in
+    (entry .pre .0 .plan .drawable, (b .shape .stored-some, (b .shape .stored-most, length-replicate {A = ℕ} shadePlaces 0)))
 
 slice-aggregate-compare-frame : tie.Need-slice-aggregate-compare-frame
 slice-aggregate-compare-frame c =
@@ -51,29 +51,22 @@ compare-frame-requires : tie.Need-compare-frame-requires
 compare-frame-requires c κs =
     let at-fill = c .before .before .before .before .before in
     let entry = at-fill .before .before .before .before .before .before .before in
-    let b = scenes.based (entry .args .bytes .now) (entry .args .n) (entry .args .frame) (entry .pre .1 .0) (entry .pre .1 .1 .1 .1 .0)
-    (entry .pre .1 .1 .1 .1 .1 .0) (entry .args .c) (entry .pre .1 .1 .0) in (
-      entry .pre .0,
+    let b = planned.based (entry .pre .0) in (
+      entry .pre .0 .table,
       (
-        scenes.is-pixels (entry .args .bytes .now) (entry .args .n) (entry .args .frame) (entry .pre .1 .0) (entry .pre .1 .1 .1 .1 .0)
-            (entry .pre .1 .1 .1 .1 .1 .0) (entry .args .c) (entry .pre .1 .1 .0),
+        planned.is-pixels (entry .pre .0),
         (
-          record { shape = b .shape; inside = b .inside; wide = omega (arith, length-replicate {A = ℕ} 65535 0) },
+          record {
+            shape = b .shape;
+            inside = b .inside;
+            shaded = record { drawable = entry .pre .0 .plan .drawable; shades = λ e. at-fill .fill .ensures };
+            above = omega (arith, length-replicate {A = ℕ} longestRow 0);
+            below = omega (arith, length-replicate {A = ℕ} longestRow 0);
+            wide = omega (arith, length-replicate {A = ℕ} 65535 0);
+          },
           (
-            scenes.ready (entry .args .bytes .now) (entry .args .n) (entry .args .frame) (entry .pre .1 .0) (entry .pre .1 .1 .1 .1 .0)
-                (entry .pre .1 .1 .1 .1 .1 .0) (entry .args .c) (entry .pre .1 .1 .0) (entry .args .own) (entry .pre .1 .1 .1 .0),
-            (
-              record { drawable = entry .pre .1 .1 .1 .0 .drawable; shades = λ e. at-fill .fill .ensures },
-              (
-                omega (arith, length-replicate {A = ℕ} 65664 0),
-                (
-                  omega (arith, length-replicate {A = ℕ} 65664 0),
-                  subst
-                      (λ (k : ℕ). Against (entry .args .cells .now) (entry .args .tolerance) k) (sym (b .size))
-                      (entry .pre .1 .1 .1 .1 .1 .1),
-                ),
-              ),
-            ),
+            planned.masks-ready (entry .pre .0),
+            subst (λ (k : ℕ). Against (entry .args .cells .now) (entry .args .tolerance) k) (sym (b .size)) (entry .pre .1),
           ),
         ),
       ),
@@ -83,11 +76,9 @@ returns : tie.Need-returns
 returns c =
     let at-compare-frame = c .before .before .before in
     let entry = at-compare-frame .before .before .before .before .before .before .before .before .before .before .before .before .before in
-    let b = scenes.based (entry .args .bytes .now) (entry .args .n) (entry .args .frame) (entry .pre .1 .0) (entry .pre .1 .1 .1 .1 .0)
-    (entry .pre .1 .1 .1 .1 .1 .0) (entry .args .c) (entry .pre .1 .1 .0) in
+    let b = planned.based (entry .pre .0) in
     let t : Shades = record { window = entry .args .own .window; inverse = entry .args .c .inverse; filled = true } in
-    let d = counted.picture (entry .args .bytes .now) (entry .args .n) (entry .args .frame) (entry .pre .1 .0) (entry .pre .1 .1 .1 .1 .0)
-    (entry .pre .1 .1 .1 .1 .1 .0) (entry .args .c) (entry .pre .1 .1 .0) (entry .args .own) (entry .pre .1 .1 .1 .0) t refl refl in
+    let d = planned.picture (entry .pre .0) t refl refl in
     at-compare-frame .compare-frame .ensures
     ∙ (met-list (entry .args .tolerance) (shadeBy (nodesOf (entry .args .bytes .now)) (shadesOf t (entry .args .c .g .stored))
     (entry .args .c .g) (valueAt (nodesOf (entry .args .bytes .now)) (entry .args .c .p)) (entry .args .frame)

@@ -58,9 +58,9 @@ loop-holds : tie.Need-loop-holds Inv-loop2 μ-loop2 Inv-loop μ-loop Inv-judge �
 loop-holds c =
     (omega arith, (omega arith, refl))
 
-shared-ok-requires :
-    tie.Need-shared-ok-requires Inv-loop2 μ-loop2 Inv-loop μ-loop Inv-judge μ-judge
-shared-ok-requires c κs =
+part-for-requires :
+    tie.Need-part-for-requires Inv-loop2 μ-loop2 Inv-loop μ-loop Inv-judge μ-judge
+part-for-requires c κs =
     let at-shared-item = c .before .before .before .before in
     let entry = at-shared-item .before .before .before .before in
     (entry .pre, at-shared-item .shared-item .ensures .1)
@@ -91,8 +91,8 @@ rule-holds-requires :
     tie.Need-rule-holds-requires Inv-loop2 μ-loop2 Inv-loop μ-loop Inv-judge μ-judge
 rule-holds-requires c κs =
     let at-first-frame = c .before .before .before in
-    let at-shared-ok = at-first-frame .before in
-    let at-loop-test = at-shared-ok .before in
+    let at-part-for = at-first-frame .before in
+    let at-loop-test = at-part-for .before in
     let at-loop = at-loop-test .before in
     let at-shared-item = at-loop .before .before .before in
     let at-frame-total = at-shared-item .before in
@@ -103,7 +103,7 @@ rule-holds-requires c κs =
         (
           at-shared-item .shared-item .ensures .0,
           (
-            at-shared-ok .shared-ok .ensures,
+            at-part-for .part-for .ensures,
             loops.asked-at _ (at-frame-total .frame-total .result) (at-loop .loop .rule) (c .before .loop2 .frame) (at-loop .loop .inv .0)
                 (at-loop-test .loop-test .taken) (omega (arith, at-first-frame .first-frame .ensures, c .before .loop2 .inv .1 .0))
                 (omega (arith, c .before .before .end-frame .ensures .0, c .loop2-test .taken))
@@ -178,7 +178,7 @@ first-broken-spec =
     frame-items-requires
     judge-holds
     loop-holds
-    shared-ok-requires
+    part-for-requires
     first-frame-requires
     end-frame-requires
     loop2-holds

@@ -7,7 +7,7 @@ use mathlib.Core.Bool.{Bool, cond}
 use Rattle.node.specs.Nodes.{nodesOf}
 use Rattle.value.specs.declared.Num.{Num}
 use Rattle.rules_frame.specs.Contracts.{sharedPart}
-use Rattle.conformance.specs.Contracts.{noPart, okFor}
+use Rattle.conformance.specs.Contracts.{noPart, partFor}
 use borrow.Author.Needs.{needs}
 use Rattle.conformance.proofs.frame_holds.Statement.{statement}
 use Rattle.conformance.proofs.frame_holds.Tie as tie
@@ -28,7 +28,7 @@ item-rule-requires c κs =
         node-laws.within _ (c .before .before .shared .given .1) (p .1 .0),
         (
           omega (arith, c .if1 .taken, p .1 .1 .1 .1 .1 .1 .inner),
-          p .1 .1 .1 .0 ∙ ap (λ (x : Num). okFor (nodesOf (a .bytes .now)) (a .rule) x) (c .before .before .shared .given .1)
+          p .1 .1 .1 .0 ∙ ap (λ (x : Num). partFor (nodesOf (a .bytes .now)) (a .rule) x) (c .before .before .shared .given .1)
               ∙ ap (λ (t : Bool). cond t (sharedPart (nodesOf (a .bytes .now)) (a .rule) (c .before .before .shared .given .0 .0)) noPart)
               (p .1 .1 .1 .1 .0),
         ),

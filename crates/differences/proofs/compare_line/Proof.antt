@@ -13,11 +13,12 @@ use Rattle.differences.proofs.compare_line.Statement.{statement}
 use Rattle.differences.proofs.compare_line.Tie as tie
 
 abbrev Inv-loop : tie.InvT-loop
-Inv-loop line cells at tolerance now₀ k₀ k-end now k =
-    (k ≤ k-end) × ((k-end ≡ length line) × (now ≡ along (λ j. not (within tolerance (getD line j 0) (getD cells (at + j) 0))) at k now₀))
+Inv-loop line cells at tolerance found₀ k₀ k-end found k =
+    (k ≤ k-end) × ((k-end ≡ length line) × (found ≡ along (λ j. not (within tolerance (getD line j 0) (getD cells
+    (at + j) 0))) at k found₀))
 
 abbrev μ-loop : tie.MeasureT-loop
-μ-loop line cells at tolerance now₀ k₀ k-end now k =
+μ-loop line cells at tolerance found₀ k₀ k-end found k =
     k-end - k
 
 loop-holds : tie.Need-loop-holds Inv-loop μ-loop
@@ -101,7 +102,7 @@ loop-again c =
         places.along-next (λ j.
             not (within (entry .args .tolerance) (getD (entry .args .line .now) j 0)
             (getD (entry .args .cells .now) (entry .args .at + j) 0)))
-            (entry .args .at) (at-loop .loop .k) (entry .args .sofar) (at-loop .loop .now) _ _ (at-loop .loop .inv .1 .1)
+            (entry .args .at) (at-loop .loop .k) (entry .args .sofar) (at-loop .loop .found) _ _ (at-loop .loop .inv .1 .1)
             (c .before .is-off .ensures ∙ rw (at-wide .wide .ensures .0, c .before .before .wide2 .ensures .0)) (c .look .ensures),
       ),
     )
@@ -111,7 +112,7 @@ returns c =
     let entry = c .before .before .before .before in
     let e : c .before .loop .k
     ≡ length (entry .args .line .now) = omega (arith, c .loop-test .left, c .before .loop .inv .0, c .before .loop .inv .1 .0) in
-    subst (λ (n : ℕ). c .before .loop .now ≡ along (λ j.
+    subst (λ (n : ℕ). c .before .loop .found ≡ along (λ j.
     not (within (entry .args .tolerance) (getD (entry .args .line .now) j 0) (getD (entry .args .cells .now) (entry .args .at + j) 0)))
     (entry .args .at) n (entry .args .sofar)) e (c .before .loop .inv .1 .1)
 

@@ -11,6 +11,7 @@ use Rattle.lines.specs.Contracts.{shadesOf}
 use Rattle.lines.proofs.Laws.{ideal-filled}
 use Rattle.display.proofs.Draws.{painted-shows}
 use Rattle.display.proofs.Scenes as scenes
+use Rattle.window.specs.Contracts.{shadePlaces}
 use borrow.Author.Needs.{needs}
 use Rattle.display.proofs.draw.Statement.{statement}
 use Rattle.display.proofs.draw.Tie as tie
@@ -39,7 +40,7 @@ fill-requires c κs =
     let ready = entry .pre in
     let b = scenes.based (entry .args .bytes .now) (entry .args .n) (entry .args .frame) (ready .object) (ready .low)
     (ready .high) (at-scene-of .scene-of .result) (at-scene-of .scene-of .ensures) in
-    (at-plan-for .plan-for .ensures .drawable, (b .shape .stored-some, (b .shape .stored-most, length-replicate {A = ℕ} 131072 0)))
+    (at-plan-for .plan-for .ensures .drawable, (b .shape .stored-some, (b .shape .stored-most, length-replicate {A = ℕ} shadePlaces 0)))
 
 slice-aggregate-paint : tie.Need-slice-aggregate-paint
 slice-aggregate-paint c =

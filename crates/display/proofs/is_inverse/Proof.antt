@@ -2,7 +2,7 @@
 use mathlib.Core.Path.{sym, _∙_}
 use Rattle.steps.proofs.Laws as steps-laws
 use Rattle.steps.proofs.Given.{never}
-use Rattle.steps.specs.Contracts.{inverseSaid}
+use Rattle.steps.specs.Contracts.{holdsOf}
 use borrow.Author.Needs.{needs}
 use Rattle.display.proofs.is_inverse.Statement.{statement}
 use Rattle.display.proofs.is_inverse.Tie as tie
@@ -21,17 +21,17 @@ enum-told-3 c = search needs
 
 returns : tie.Need-returns
 returns c =
-    steps-laws.said inverseSaid (c .enum-told .given .1) (c .before .before .inverse-of .ensures)
+    steps-laws.said holdsOf (c .enum-told .given .1) (c .before .before .inverse-of .ensures)
 
 returns-2 : tie.Need-returns-2
 returns-2 c =
-    steps-laws.said inverseSaid (c .enum-told2 .given .1) (c .before .before .inverse-of .ensures)
+    steps-laws.said holdsOf (c .enum-told2 .given .1) (c .before .before .inverse-of .ensures)
 
 returns-3 : tie.Need-returns-3
 returns-3 c =
     let entry = c .before .before .before .before .before in
     absurd
-    (never (sym (steps-laws.said inverseSaid (c .enum-told3 .given .1) (c .before .before .inverse-of .ensures)) ∙ entry .pre .1 .is))
+    (never (sym (steps-laws.said holdsOf (c .enum-told3 .given .1) (c .before .before .inverse-of .ensures)) ∙ entry .pre .1 .is))
 
 pub is-inverse-spec : {M : Type 1} → statement M
 is-inverse-spec =

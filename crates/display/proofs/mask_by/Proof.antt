@@ -1,4 +1,4 @@
--- The three words are tried in the order of the definition, and any other lacks.
+-- Each operation leads to its own masking; what was told is the item's operation.
 use mathlib.Core.Path.{sym, _∙_}
 use Rattle.node.specs.Nodes.{nodesOf}
 use Rattle.display.proofs.Answering as plan

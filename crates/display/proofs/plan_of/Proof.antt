@@ -37,7 +37,7 @@ window-by-requires : tie.Need-window-by-requires
 window-by-requires c κs =
     let entry = c .before .before .before .before in
     let p = entry .pre in
-    (p .0, (p .1 .1 .1 .0 .is, (p .1 .1 .1 .0 .below, p .1 .1 .0 .window-is)))
+    (p .0, ((p .1 .1 .1 .0 .is, p .1 .1 .1 .0 .below), p .1 .1 .0 .window-is))
 
 enum-known-window : tie.Need-enum-known-window
 enum-known-window c =

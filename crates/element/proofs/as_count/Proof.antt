@@ -1,6 +1,7 @@
 -- Only a number without a minus counts for what it is, and it keeps its bound.
 use mathlib.Core.Path.{sym, ap, subst}
 use Rattle.value.specs.declared.Signed.{Signed}
+use Rattle.value.specs.Number.{integerLimit}
 use Rattle.value.specs.Contracts.{SizeBelow}
 use Rattle.element.specs.Frames.{asCount}
 use borrow.Author.Needs.{needs}
@@ -19,7 +20,7 @@ enum-told-2 c = search needs
 returns : tie.Need-returns
 returns c =
     let entry = c .before .before .before in
-    (ap asCount (sym (c .before .n .given .1)), subst (λ (x : Signed). SizeBelow 100000000000 x) (c .before .n .given .1) (entry .pre))
+    (ap asCount (sym (c .before .n .given .1)), subst (λ (x : Signed). SizeBelow integerLimit x) (c .before .n .given .1) (entry .pre))
 
 returns-2 : tie.Need-returns-2
 returns-2 c = search needs

@@ -20,12 +20,12 @@ value-requires c κs =
     let entry = at-find-vr-root .before .before .before in
     (entry .pre, node-laws.within _ (c .before .i .given .1) (at-find-vr-root .find-vr-root .ensures .1))
 
-is-of-requires : tie.Need-is-of-requires
-is-of-requires c κs = search needs
+integer-of-requires : tie.Need-integer-of-requires
+integer-of-requires c κs = search needs
 
 as-count-requires : tie.Need-as-count-requires
 as-count-requires c κs =
-    c .is-of .ensures .1
+    c .integer-of .ensures .1
 
 returns : tie.Need-returns
 unfolding framesOf
@@ -40,7 +40,7 @@ returns-2 c =
       rw (
         node-laws.had (at-i .i .given .1) (at-find-vr-root .find-vr-root .ensures .0),
         ← c .before .before .value .ensures,
-        ← c .before .is-of .ensures .0,
+        ← c .before .integer-of .ensures .0,
       ) (c .as-count .ensures .0),
       c .as-count .ensures .1,
     )
@@ -53,7 +53,7 @@ frame-count-spec =
     enum-told
     enum-known-i
     value-requires
-    is-of-requires
+    integer-of-requires
     as-count-requires
     returns
     returns-2)

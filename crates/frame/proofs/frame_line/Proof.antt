@@ -40,7 +40,8 @@ use denote.Triple.Walked.{says, needs, Stays, stay-none, stay-none-slice, walkOf
 use denote.Triple.Walked.{walk-meets}
 use denote.Exit.{yes}
 use denote.Triple.Clauses.{ensured, lasts}
-use Rattle.frame.specs.View.{Part, IsView, Fits, frameSize}
+use Rattle.frame.specs.View.{Part, IsView, frameSize}
+use Rattle.frame.specs.Contracts.{Fits}
 use Rattle.frame.specs.declared.FrameView.{FrameView}
 use Rattle.frame.proofs.Laws.{line-fits, line-part}
 use Rattle.frame.proofs.FrameView as T
@@ -58,7 +59,7 @@ use Rattle.frame.proofs.frame_line as whole
 use Rattle.frame.proofs.frame_line.Statement as stated
 use Rattle.frame.proofs.frame_line.Code as code
 
--- the struct's type, over the signature's lifetimes
+-- The struct's type, over the signature's lifetimes.
 abbrev B : Lfts 1 → RattleType
 B κs = T.the-row (namedLft 1 0 tt κs)
 
@@ -72,7 +73,7 @@ stayed = (
 )
 
 module _ {M : Type 1} (𝓤 : URA M) (H : Heap 𝓤) (A : Atoms 𝓤) (mem : Memory → SProp 𝓤) (run : Routine → Fun 𝓤) where
-  -- the contracts that the proof cites
+  -- The contracts that the proof cites.
   abbrev View : Contract 𝓤
   View = tripleOf 𝓤 H A view.signature (view.spec 𝓤 H A mem run)
 
@@ -83,11 +84,11 @@ module _ {M : Type 1} (𝓤 : URA M) (H : Heap 𝓤) (A : Atoms 𝓤) (W : Given
     (q : Share) (s : RefT (List ℕ)) (rows columns width f row : ℕ)
     (ok : Fits rows columns width f (length (s .now)) × (row < rows)) (g₁ : rows < 2 ^ 64) (g₂ : columns < 2 ^ 64) (g₃ : width < 2 ^ 64)
     (g₄ : f < 2 ^ 64) (g₅ : row < 2 ^ 64) where
-  -- the machine value that s has
+  -- The machine value that s has.
   abbrev v : Val
   v = sliceVal (s .ptr) (length (s .now))
 
-  -- the struct's type as a local of a body has it
+  -- The struct's type as a local of a body has it.
   abbrev αᵉ : NamedLft
   αᵉ = record { mir = erased; lft = κ }
 
@@ -103,7 +104,7 @@ module _ {M : Type 1} (𝓤 : URA M) (H : Heap 𝓤) (A : Atoms 𝓤) (W : Given
   abbrev Own : Fml
   Own = ShrSlice (named 0) κ u8 .own s (v ∷ [])
 
-  -- the call of `view`: what it is passed, what it asks, and what is known of its result
+  -- The call of `view`: what it is passed, what it asks, and what is known of its result.
   abbrev args-view : RefT (List ℕ) × (ℕ × (ℕ × (ℕ × (ℕ × Unit {0}))))
   args-view = (s, (rows, (columns, (width, (f, tt)))))
 
@@ -132,7 +133,7 @@ module _ {M : Type 1} (𝓤 : URA M) (H : Heap 𝓤) (A : Atoms 𝓤) (W : Given
   view-said : (r : FrameView) → ent 𝓤 (ensured 𝓤 H A view.ended (view.clauses 𝓤 H A mem run) (κ, tt) args-view tt r) (fact 𝓤 (Viewed r))
   view-said r = exE 𝓤 _ (λ ws. snd∗ 𝓤 (sem 𝓤 H A (lasts view.ended (κ, tt) args-view ws)) (fact 𝓤 (Viewed r)))
 
-  -- the call of `line`, at the struct r with the machine value u
+  -- The call of `line`, at the struct r with the machine value u.
   abbrev args-line : FrameView → FrameView × (ℕ × (ℕ × Unit {0}))
   args-line r = (r, (width, (row, tt)))
 
@@ -189,7 +190,7 @@ module _ {M : Type 1} (𝓤 : URA M) (H : Heap 𝓤) (A : Atoms 𝓤) (W : Given
         use1 W (later (some (λ (r : FrameView). ((‵ (flft κ q) ⊛ ‵ ftrue) ⊛ ‵ (B (κ, tt) .own r (u ∷ []))) ⊛ raw
         (ensured 𝓤 H A view.ended (view.clauses 𝓤 H A mem run) (κ, tt) args-view tt r)))) (id⊢ 𝓤 _) $ await ! tt $ pick ! (λ r.
         split ! $ move ! (1 ∷ []) $ use1 W (raw (fact 𝓤 (Viewed r))) (view-said r) $ heard ! (Viewed r) (λ e. split ! $ move ! (1 ∷ []) $
-        -- [what the struct owns; the token; what s owns; room for _7; …; _6; …; _5; …; _4; …; _3; …; _2; …; _1; …; room for _0; …]
+        -- Owned: what the struct and s own, the locals, and room for the second result.
         peeks ! (B (κ, tt)) (Is (B (κ, tt))) (shows 𝓤 H A (B (κ, tt))) r (u ∷ []) (λ is.
         land ! (from ! (stop !)) (init ! 3 refl (LL.lawful (T.the-type αᵉ) (T′.the-laws αᵉ) 𝓤 H A W .typed r _ is .0)) $
         use2 W (raw (Line 𝓤 H A mem run .pre (to-line r u))) (goes-line r u e) $
@@ -200,7 +201,7 @@ module _ {M : Type 1} (𝓤 : URA M) (H : Heap 𝓤) (A : Atoms 𝓤) (W : Given
         (ensured 𝓤 H A line.ended (line.clauses 𝓤 H A mem run) (κ, tt) (args-line r) tt t)))) (id⊢ 𝓤 _) $ await ! tt $ pick ! (λ t.
         split ! $ move ! (1 ∷ []) $ use1 W (raw (fact 𝓤 (Lined r t))) (line-said r t) $ heard ! (Lined r t)
         (λ e′. split ! $ move ! (1 ∷ []) $
-        -- [the result; the token; what s owns; _7; …; _6; …; _5; …; _4; …; _3; …; _2; …; _1; …; room for _0; …]
+        -- Owned: the result, what s owns, the locals, and room for the result.
         peeks ! (ShrSlice (named 0) κ u8) (Is (ShrSlice (named 0) κ u8)) (shows 𝓤 H A (ShrSlice (named 0) κ u8)) t (u′ ∷ []) (λ is′.
         land ! (from ! (stop !)) (init ! 17 refl (shr-slice-lawful 𝓤 H A W (named 0) κ u8 .typed t (u′ ∷ []) is′ .0)) $
         returns ! (look ! 17 refl) $ forget ! 3 refl $ forget ! 5 refl $ forget ! 7 refl $ forget ! 9 refl $ forget ! 11 refl $ forget ! 13

@@ -1,5 +1,5 @@
 -- `frame::line` meets its contract: a walk of its MIR, by hand. The struct is taken apart, and `line_part` is called on its slice and its
--- columns; what that hands back is the result. The struct is Copy: what it owns is had twice, one copy is kept whole for the exit, and of
+-- columns; what that hands back is the result. The struct is Copy: what it owns is there twice, one copy is kept whole for the exit, and of
 -- the other what samples owns goes to the callee. What the numbers own is made anew.
 use mathlib.Core.Path.{_≡_, refl}
 use Prim.Native.Nat.{ℕ, _+_, _*_, _≤_, _<_, _^_}
@@ -57,7 +57,7 @@ use Rattle.frame.proofs.line as line
 use Rattle.frame.proofs.line.Statement as stated
 use Rattle.frame.proofs.line.Code as code
 
--- the struct's type, over the signature's lifetimes
+-- The struct's type, over the signature's lifetimes.
 abbrev B : Lfts 1 → RattleType
 B κs = T.the-row (namedLft 1 0 tt κs)
 
@@ -65,7 +65,7 @@ abbrev stayed : Stays (line.ended .signature .params) (line.ended .kept)
 stayed = (stay-none B yes, (stay-none (λ _. usize) yes, (stay-none (λ _. usize) yes, tt)))
 
 module _ {M : Type 1} (𝓤 : URA M) (H : Heap 𝓤) (A : Atoms 𝓤) (mem : Memory → SProp 𝓤) (run : Routine → Fun 𝓤) where
-  -- the contract that the proof cites
+  -- The contract that the proof cites.
   abbrev Callee : Contract 𝓤
   Callee = tripleOf 𝓤 H A callee.signature (callee.spec 𝓤 H A mem run)
 
@@ -75,7 +75,7 @@ module _ {M : Type 1} (𝓤 : URA M) (H : Heap 𝓤) (A : Atoms 𝓤) (W : Given
   abbrev mach : Val
   mach = T′.lowered d
 
-  -- the machine value of samples
+  -- The machine value of samples.
   abbrev v : Val
   v = sliceVal (d .samples .ptr) (length (d .samples .now))
 
@@ -91,7 +91,7 @@ module _ {M : Type 1} (𝓤 : URA M) (H : Heap 𝓤) (A : Atoms 𝓤) (W : Given
   abbrev Own : Fml
   Own = B (κ, tt) .own d (mach ∷ [])
 
-  -- the struct's type and laws, and d's fields' values
+  -- The struct's type and laws, and the values of the fields of d.
   abbrev D : Declared
   D = T.the-type (namedLft 1 0 tt (κ, tt))
 
@@ -101,7 +101,7 @@ module _ {M : Type 1} (𝓤 : URA M) (H : Heap 𝓤) (A : Atoms 𝓤) (W : Given
   abbrev vd : Values (D .parts)
   vd = (d .samples, (d .rows, (d .columns, tt)))
 
-  -- what the callee is passed, and what is known of its result
+  -- What the callee is passed, and what is known of its result.
   abbrev given-on : RefT (List ℕ) × (ℕ × (ℕ × (ℕ × Unit {0})))
   given-on = (d .samples, (d .columns, (width, (row, tt))))
 
@@ -114,7 +114,7 @@ module _ {M : Type 1} (𝓤 : URA M) (H : Heap 𝓤) (A : Atoms 𝓤) (W : Given
   abbrev Found : RefT (List ℕ) → Type 0
   Found r = Part (d .samples) (row * (d .columns * width)) (d .columns * width) r
 
-  -- what the struct owns gives what the callee asks, and is kept
+  -- What the struct owns gives what the callee asks, and is kept.
   apart : d .columns < 2 ^ 64
       → ent 𝓤 (onEntry 𝓤 H A line.signature (κ, tt) (q, tt) args at) (sep 𝓤 (Callee 𝓤 H A mem run .pre to) (sem 𝓤 H A Own))
   apart fits =
@@ -123,7 +123,7 @@ module _ {M : Type 1} (𝓤 : URA M) (H : Heap 𝓤) (A : Atoms 𝓤) (W : Given
       (LL.copy D (T′.the-copy (namedLft 1 0 tt (κ, tt))) 𝓤 H A W .twice d (mach ∷ [])) $ split ! $
       use1 W (given (mach ∷ [] ≡ mach ∷ []) (‵ (all-own (D .parts) L vd))) (own-open 𝓤 H A W D L vd mach) $ learn !
       (λ _. use1 W (‵ (ownAt (D .parts) L 0 (d .samples)) ⊛ ‵ (rest (D .parts) L 0 vd)) (own-out 𝓤 H A W (D .parts) L 0 vd) $ split ! $
-      -- [what samples owns; what the numbers own; what the struct owns; the token]
+      -- Owned: what samples, the numbers and the struct own.
       move ! (1 ∷ []) $ drop ! $ nothing ! $ owned ! usize (Is usize) (uint-makes 𝓤 H A W w64) row _ (refl, g₂) $ fjoin ! $ owned ! usize
       (Is usize) (uint-makes 𝓤 H A W w64) width _ (refl, g₁) $ fjoin ! $
       owned ! usize (Is usize) (uint-makes 𝓤 H A W w64) (d .columns) _ (refl, fits) $ fjoin ! $ move ! (1 ∷ 0 ∷ []) $ fjoin ! $
@@ -165,7 +165,7 @@ module _ {M : Type 1} (𝓤 : URA M) (H : Heap 𝓤) (A : Atoms 𝓤) (W : Given
         use1 W (later (some (λ (r : RefT (List ℕ)). ((‵ (flft κ q) ⊛ ‵ ftrue) ⊛ ‵ (ShrSlice (named 0) κ u8 .own r (u ∷ []))) ⊛ raw
         (ensured 𝓤 H A callee.ended (callee.clauses 𝓤 H A mem run) (κ, tt) given-on tt r)))) (id⊢ 𝓤 _) $ await ! tt $ pick ! (λ r.
         split ! $ move ! (1 ∷ []) $ use1 W (raw (fact 𝓤 (Found r))) (said r) $ heard ! (Found r) (λ e. split ! $ move ! (1 ∷ []) $
-        -- [the result; the token; what the struct owns; _5; …; _4; …; _3; …; _2; …; _1; …; room for _0; …]
+        -- Owned: the result, what the struct owns, the locals, and room for the result.
         peeks ! (ShrSlice (named 0) κ u8) (Is (ShrSlice (named 0) κ u8)) (shows 𝓤 H A (ShrSlice (named 0) κ u8)) r (u ∷ []) (λ is.
         land ! (from ! (stop !)) (init ! 13 refl (shr-slice-lawful 𝓤 H A W (named 0) κ u8 .typed r (u ∷ []) is .0)) $
         returns ! (look ! 13 refl) $ forget ! 3 refl $ forget ! 5 refl $ forget ! 7 refl $ forget ! 9 refl $ forget ! 11 refl $ forget ! 13

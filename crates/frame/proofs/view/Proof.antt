@@ -1,6 +1,6 @@
 -- `frame::view` meets its contract: a walk of its MIR, by hand. `frame_part` is called on what was passed, and the struct is made of the
--- slice that it hands back and of two numbers. A `&[u8]` is Copy, so what it owns is had twice: once for the callee, and once for the exit.
--- What the numbers own is made anew.
+-- slice that it hands back and of two numbers. A `&[u8]` is Copy, so what it owns is there twice, for the callee and for the exit. What the
+-- numbers own is made anew.
 use mathlib.Core.Path.{refl, ap}
 use Prim.Native.Nat.{ℕ, _-_, _*_, _<_, _^_}
 use mathlib.Core.List.{List, [], _∷_}
@@ -41,7 +41,8 @@ use denote.Triple.Walked.{says, needs, Stays, stay-none, stay-none-slice, walkOf
 use denote.Triple.Walked.{walk-meets}
 use denote.Exit.{yes}
 use denote.Triple.Clauses.{ensured, lasts}
-use Rattle.frame.specs.View.{Part, Fits, frameSize}
+use Rattle.frame.specs.View.{Part, frameSize}
+use Rattle.frame.specs.Contracts.{Fits}
 use Rattle.frame.specs.declared.FrameView.{FrameView}
 use Rattle.frame.proofs.FrameView as T
 use Rattle.frame.proofs.FrameView.Laws as T′
@@ -61,7 +62,7 @@ stayed = (
 )
 
 module _ {M : Type 1} (𝓤 : URA M) (H : Heap 𝓤) (A : Atoms 𝓤) (mem : Memory → SProp 𝓤) (run : Routine → Fun 𝓤) where
-  -- the contract that the proof cites
+  -- The contract that the proof cites.
   abbrev Callee : Contract 𝓤
   Callee = tripleOf 𝓤 H A callee.signature (callee.spec 𝓤 H A mem run)
 
@@ -72,7 +73,7 @@ module _ {M : Type 1} (𝓤 : URA M) (H : Heap 𝓤) (A : Atoms 𝓤) (W : Given
   abbrev α : NamedLft
   α = namedLft 1 0 tt (κ, tt)
 
-  -- the machine value that s has
+  -- The machine value that s has.
   abbrev v : Val
   v = sliceVal (s .ptr) (length (s .now))
 
@@ -91,14 +92,14 @@ module _ {M : Type 1} (𝓤 : URA M) (H : Heap 𝓤) (A : Atoms 𝓤) (W : Given
   abbrev Own : Fml
   Own = ShrSlice (named 0) κ u8 .own s (v ∷ [])
 
-  -- what is known of the callee's result
+  -- What is known of the callee's result.
   abbrev Found : RefT (List ℕ) → Type 0
   Found r = Part s ((f - 1) * frameSize rows columns width) (frameSize rows columns width) r
 
   abbrev to : Callee 𝓤 H A mem run .Ghost
   to = (((κ, tt), (q, tt), tt, args, at), tt)
 
-  -- what is owned at entry gives what the callee asks, and what s owns is kept
+  -- What is owned at entry gives what the callee asks, and what s owns is kept.
   goes : ent 𝓤 (onEntry 𝓤 H A view.signature (κ, tt) (q, tt) args at) (sep 𝓤 (Callee 𝓤 H A mem run .pre to) (sem 𝓤 H A Own))
   goes =
       qed W ((‵ (flft κ q) ⊛ ‵ ftrue) ∷ ‵ (owns (ShrSlice (named 0) κ u8 ∷ usize ∷ usize ∷ usize ∷ usize ∷ []) args at) ∷ []) ∵
@@ -119,7 +120,7 @@ module _ {M : Type 1} (𝓤 : URA M) (H : Heap 𝓤) (A : Atoms 𝓤) (W : Given
       (T′.lowered (made r)) (made r) (tt, (tt, (tt, (tt, (tt, tt))))) (tt, (tt, (tt, (tt, (tt, tt)))))) $ says !
       (record { part = e; rows-are = refl; columns-are = refl }) $
       move ! (1 ∷ []) $ frame ! $
-      -- [what the result's slice owns; what s owns]
+      -- Owned: what the result's slice owns, and what s owns.
       nothing ! $ owned ! usize (Is usize) (uint-makes 𝓤 H A W w64) f _ (refl, g₄) $ fjoin ! $ owned ! usize (Is usize)
       (uint-makes 𝓤 H A W w64) width _ (refl, g₃) $ fjoin ! $
       owned ! usize (Is usize) (uint-makes 𝓤 H A W w64) columns _ (refl, g₂) $ fjoin ! $ owned ! usize (Is usize) (uint-makes 𝓤 H A W w64)
@@ -147,7 +148,7 @@ module _ {M : Type 1} (𝓤 : URA M) (H : Heap 𝓤) (A : Atoms 𝓤) (W : Given
         use1 W (later (some (λ (r : RefT (List ℕ)). ((‵ (flft κ q) ⊛ ‵ ftrue) ⊛ ‵ (ShrSlice (named 0) κ u8 .own r (u ∷ []))) ⊛ raw
         (ensured 𝓤 H A callee.ended (callee.clauses 𝓤 H A mem run) (κ, tt) args tt r)))) (id⊢ 𝓤 _) $ await ! tt $ pick ! (λ r.
         split ! $ move ! (1 ∷ []) $ use1 W (raw (fact 𝓤 (Found r))) (said r) $ heard ! (Found r) (λ e. split ! $ move ! (1 ∷ []) $
-        -- [the slice handed back; the token; what s owns; _6; …; _5; …; _4; …; _3; …; _2; …; _1; …; room for _0; …]
+        -- Owned: the slice handed back, what s owns, the locals, and room for the result.
         peeks ! (ShrSlice (named 0) κ u8) (Is (ShrSlice (named 0) κ u8)) (shows 𝓤 H A (ShrSlice (named 0) κ u8)) r (u ∷ []) (λ is.
         land ! (from ! (stop !)) (init ! 3 refl (shr-slice-lawful 𝓤 H A W erased κ u8 .typed r (u ∷ []) is .0)) $
         rewrite ! 3 (λ (x : Val). ‵ (fat fullShare (sliceTy (tyRef erased imm (tyInt w8))) l₆ 0 x)) (ap only (is .0 .0)) refl $

@@ -5,8 +5,8 @@ use borrow.Author.Needs.{needs}
 use Rattle.intensity.proofs.relation_in.Statement.{statement}
 use Rattle.intensity.proofs.relation_in.Tie as tie
 
-find-item-requires : tie.Need-find-item-requires
-find-item-requires c κs = search needs
+find-in-item-requires : tie.Need-find-in-item-requires
+find-in-item-requires c κs = search needs
 
 enum-told : tie.Need-enum-told
 enum-told c = search needs
@@ -16,22 +16,22 @@ enum-known-g c = search needs
 
 relation-of-requires : tie.Need-relation-of-requires
 relation-of-requires c κs =
-    let at-find-item = c .before .before .before in
-    let entry = at-find-item .before .before .before in
-    (entry .pre .0, node-laws.within _ (c .before .g .given .1) (at-find-item .find-item .ensures .1))
+    let at-find-in-item = c .before .before .before in
+    let entry = at-find-in-item .before .before .before in
+    (entry .pre .0, node-laws.within _ (c .before .g .given .1) (at-find-in-item .find-in-item .ensures .1))
 
 returns : tie.Need-returns
 unfolding relationIn
 returns c =
-    rw (node-laws.had-none (c .enum-told .given .1) (c .before .before .find-item .ensures .0))
+    rw (node-laws.had-none (c .enum-told .given .1) (c .before .before .find-in-item .ensures .0))
 
 returns-2 : tie.Need-returns-2
 unfolding relationIn
 returns-2 c =
-    let at-find-item = c .before .before .before .before in
-    rw (node-laws.had (c .before .before .g .given .1) (at-find-item .find-item .ensures .0)) (c .relation-of .ensures)
+    let at-find-in-item = c .before .before .before .before in
+    rw (node-laws.had (c .before .before .g .given .1) (at-find-in-item .find-in-item .ensures .0)) (c .relation-of .ensures)
 
 pub relation-in-spec : {M : Type 1} → statement M
 relation-in-spec =
     tie.close
-    (tie.spec find-item-requires enum-told enum-known-g relation-of-requires returns returns-2)
+    (tie.spec find-in-item-requires enum-told enum-known-g relation-of-requires returns returns-2)

@@ -6,6 +6,7 @@ use native.Mathlib.Omega.{arith}
 use lib.Seq.{length-take-le}
 use Rattle.dataset.specs.Answer.{width}
 use Rattle.node.specs.Nodes.{nodesOf}
+use Rattle.conformance.proofs.After.{after-broken}
 use Rattle.judge_small.proofs.Places as laws
 use borrow.Author.Needs.{needs}
 use Rattle.judge_small.proofs.judge_located.Statement.{statement}
@@ -33,25 +34,25 @@ returns c =
 mul-end : tie.Need-mul-end
 mul-end c =
     let at-judge = c .before .before .before .before in
-    let t = laws.after-broken _ _ _ _ _ _ (sym (c .before .answer .given .1) ∙ at-judge .judge .ensures .0 .same)
+    let t = after-broken _ _ _ _ _ _ (sym (c .before .answer .given .1) ∙ at-judge .judge .ensures .0 .same)
     (at-judge .judge .ensures .1) in
     omega (arith, t .1 .size, t .1 .few, length-take-le (width * c .before .answer .given .0 .0) (at-judge .judge .last .1 .0) (t .0))
 
 array-share-prefix-rows : tie.Need-array-share-prefix-rows
 array-share-prefix-rows c =
     let at-judge = c .before .before .before .before in
-    laws.after-broken _ _ _ _ _ _ (sym (c .before .answer .given .1) ∙ at-judge .judge .ensures .0 .same) (at-judge .judge .ensures .1) .0
+    after-broken _ _ _ _ _ _ (sym (c .before .answer .given .1) ∙ at-judge .judge .ensures .0 .same) (at-judge .judge .ensures .1) .0
 
 slice-aggregate-broken-at : tie.Need-slice-aggregate-broken-at
 slice-aggregate-broken-at c =
     let at-judge = c .before .before .before .before .before in
-    sym (length-take-le _ _ (laws.after-broken _ _ _ _ _ _ (sym (c .before .before .answer .given .1) ∙ at-judge .judge .ensures .0 .same)
+    sym (length-take-le _ _ (after-broken _ _ _ _ _ _ (sym (c .before .before .answer .given .1) ∙ at-judge .judge .ensures .0 .same)
     (at-judge .judge .ensures .1) .0))
 
 broken-at-requires : tie.Need-broken-at-requires
 broken-at-requires c κs =
     let at-judge = c .before .before .before .before .before in
-    laws.after-broken _ _ _ _ _ _ (sym (c .before .before .answer .given .1) ∙ at-judge .judge .ensures .0 .same)
+    after-broken _ _ _ _ _ _ (sym (c .before .before .answer .given .1) ∙ at-judge .judge .ensures .0 .same)
     (at-judge .judge .ensures .1) .1
 
 returns-2 : tie.Need-returns-2

@@ -44,27 +44,38 @@ add-copy c =
 copy-requires : tie.Need-copy-requires
 copy-requires c κs =
     let entry = c .before .before .before .before .before .before .before .before .before .before in (
-      omega (arith, entry .pre .0 .shape .columns-most, entry .pre .1 .1 .1 .1 .0),
-      omega (arith, entry .pre .0 .shape .columns-most, entry .pre .1 .1 .1 .0),
+      omega (arith, entry .pre .0 .shape .columns-most, entry .pre .1 .1 .below),
+      omega (arith, entry .pre .0 .shape .columns-most, entry .pre .1 .1 .above),
     )
 
 add-moved : tie.Need-add-moved
 add-moved c =
     let entry = c .before .before .before .before .before .before .before .before .before .before .before .before .before in
-    omega (arith, entry .pre .1 .0 .down-most, div-add-mod' (entry .args .down) 4)
+    omega (arith, entry .pre .1 .1 .masked .down-most, div-add-mod' (entry .args .down) 4)
 
 moved-requires : tie.Need-moved-requires
 moved-requires c κs =
-    let entry = c .before .before .before .before .before .before .before .before .before .before .before .before .before in
-    (entry .pre .0 .lies, (entry .pre .0 .shape .rows-most, omega (arith, entry .pre .1 .0 .down-most, div-add-mod' (entry .args .down) 4)))
+    let entry = c .before .before .before .before .before .before .before .before .before .before .before .before .before in (
+      entry .pre .0 .lies,
+      (
+        entry .pre .0 .shape .rows-most,
+        omega (
+          arith,
+          entry .pre .1 .1 .masked .down-most,
+          div-add-mod' (entry .args .down) 4,
+        ),
+      ),
+    )
 
 average-row-requires : tie.Need-average-row-requires
 average-row-requires c κs =
-    let entry = c .before .before .before .before .before .before .before .before .before .before .before .before .before .before .before in (
+    let at-moved = c .before in
+    let at-copy = at-moved .before .before .before in
+    let entry = at-copy .before .before .before .before .before .before .before .before .before .before .before in (
       entry .pre .0 .shape,
       (
-        entry .pre .1 .0 .taken,
-        (c .before .moved .ensures .1, omega (arith, entry .pre .1 .1 .1 .1 .0, entry .pre .0 .shape .columns-most)),
+        entry .pre .1 .1 .masked .taken,
+        (at-moved .moved .ensures .1, omega (arith, entry .pre .1 .1 .below, entry .pre .0 .shape .columns-most)),
       ),
     )
 
@@ -80,13 +91,14 @@ blend-all-requires c κs =
     rw (at-weights .weights .ensures, at-copy .copy .ensures) (laws.line-blends (entry .args .g) (entry .pre .0 .shape)
     (entry .args .pixels) (entry .args .frame) (entry .args .row) _ (at-frame-line .frame-line .ensures) (entry .args .shades)
     (entry .args .table .now) (entry .args .levels .now) (usValues (entry .args .masks .now)) (entry .args .down) (entry .args .right)
-    (entry .pre .1 .0 .right-most) _ _ (averaged-copy (entry .args .pixels .now) (entry .args .g) (usValues (entry .args .masks .now))
+    (entry .pre .1 .1 .masked .right-most) _ _ (averaged-copy (entry .args .pixels .now) (entry .args .g) (usValues
+    (entry .args .masks .now))
     (shifted (entry .args .down / 4) (entry .args .g .rows) (entry .args .row)) (entry .args .lower .now) (entry .args .upper .now)
-    (omega (arith, entry .pre .0 .shape .columns-most, entry .pre .1 .1 .1 .0)) (entry .pre .1 .1 .1 .1 .1))
-    (rw (at-moved .moved .ensures .0) at (at-average-row .average-row .ensures)) (entry .pre .1 .0 .taken .some)
-    (entry .pre .1 .0 .taken .few)
-    (rw (painted-length _ _ _) (omega (arith, entry .pre .0 .shape .columns-most, entry .pre .1 .1 .1 .0)))
-    (omega (arith, entry .pre .1 .1 .1 .1 .0, entry .pre .0 .shape .columns-most, at-lower .lower .given)))
+    (omega (arith, entry .pre .0 .shape .columns-most, entry .pre .1 .1 .above)) (entry .pre .1 .1 .averaged))
+    (rw (at-moved .moved .ensures .0) at (at-average-row .average-row .ensures)) (entry .pre .1 .1 .masked .taken .some)
+    (entry .pre .1 .1 .masked .taken .few)
+    (rw (painted-length _ _ _) (omega (arith, entry .pre .0 .shape .columns-most, entry .pre .1 .1 .above)))
+    (omega (arith, entry .pre .1 .1 .below, entry .pre .0 .shape .columns-most, at-lower .lower .given)))
 
 masked-row-requires : tie.Need-masked-row-requires
 masked-row-requires c κs =
@@ -100,16 +112,16 @@ masked-row-requires c κs =
     let entry = at-weights .before .before .before .before .before .before .before in (
       laws.line-masks (entry .args .g) (entry .pre .0 .shape) (entry .args .pixels) (entry .args .frame) (entry .args .row) _
           (at-frame-line .frame-line .ensures) (entry .args .shades) (entry .args .table .now) (entry .args .levels .now)
-          (usValues (entry .args .masks .now)) (entry .args .down) (entry .args .right) (entry .pre .1 .0 .right-most) _ _
+          (usValues (entry .args .masks .now)) (entry .args .down) (entry .args .right) (entry .pre .1 .1 .masked .right-most) _ _
           (averaged-copy (entry .args .pixels .now) (entry .args .g) (usValues (entry .args .masks .now))
           (shifted (entry .args .down / 4) (entry .args .g .rows) (entry .args .row)) (entry .args .lower .now) (entry .args .upper .now)
-          (omega (arith, entry .pre .0 .shape .columns-most, entry .pre .1 .1 .1 .0)) (entry .pre .1 .1 .1 .1 .1))
-          (rw (at-moved .moved .ensures .0) at (at-average-row .average-row .ensures)) (entry .pre .1 .0 .taken .some)
-          (entry .pre .1 .0 .taken .few)
-          (rw (painted-length _ _ _) (omega (arith, entry .pre .0 .shape .columns-most, entry .pre .1 .1 .1 .0)))
-          (omega (arith, entry .pre .1 .1 .1 .1 .0, entry .pre .0 .shape .columns-most, at-lower .lower .given)) _
+          (omega (arith, entry .pre .0 .shape .columns-most, entry .pre .1 .1 .above)) (entry .pre .1 .1 .averaged))
+          (rw (at-moved .moved .ensures .0) at (at-average-row .average-row .ensures)) (entry .pre .1 .1 .masked .taken .some)
+          (entry .pre .1 .1 .masked .taken .few)
+          (rw (painted-length _ _ _) (omega (arith, entry .pre .0 .shape .columns-most, entry .pre .1 .1 .above)))
+          (omega (arith, entry .pre .1 .1 .below, entry .pre .0 .shape .columns-most, at-lower .lower .given)) _
           (rw (at-weights .weights .ensures, at-copy .copy .ensures) at (at-blend-all .blend-all .ensures)) (entry .pre .0 .room),
-      omega (arith, entry .pre .1 .1 .0 .shades (c .before .before .if1 .taken) .size),
+      omega (arith, entry .pre .1 .0 .shades (c .before .before .if1 .taken) .size),
     )
 
 masked-by-window-requires : tie.Need-masked-by-window-requires
@@ -124,16 +136,16 @@ masked-by-window-requires c κs =
     let entry = at-weights .before .before .before .before .before .before .before in (
       laws.line-masks (entry .args .g) (entry .pre .0 .shape) (entry .args .pixels) (entry .args .frame) (entry .args .row) _
           (at-frame-line .frame-line .ensures) (entry .args .shades) (entry .args .table .now) (entry .args .levels .now)
-          (usValues (entry .args .masks .now)) (entry .args .down) (entry .args .right) (entry .pre .1 .0 .right-most) _ _
+          (usValues (entry .args .masks .now)) (entry .args .down) (entry .args .right) (entry .pre .1 .1 .masked .right-most) _ _
           (averaged-copy (entry .args .pixels .now) (entry .args .g) (usValues (entry .args .masks .now))
           (shifted (entry .args .down / 4) (entry .args .g .rows) (entry .args .row)) (entry .args .lower .now) (entry .args .upper .now)
-          (omega (arith, entry .pre .0 .shape .columns-most, entry .pre .1 .1 .1 .0)) (entry .pre .1 .1 .1 .1 .1))
-          (rw (at-moved .moved .ensures .0) at (at-average-row .average-row .ensures)) (entry .pre .1 .0 .taken .some)
-          (entry .pre .1 .0 .taken .few)
-          (rw (painted-length _ _ _) (omega (arith, entry .pre .0 .shape .columns-most, entry .pre .1 .1 .1 .0)))
-          (omega (arith, entry .pre .1 .1 .1 .1 .0, entry .pre .0 .shape .columns-most, at-lower .lower .given)) _
+          (omega (arith, entry .pre .0 .shape .columns-most, entry .pre .1 .1 .above)) (entry .pre .1 .1 .averaged))
+          (rw (at-moved .moved .ensures .0) at (at-average-row .average-row .ensures)) (entry .pre .1 .1 .masked .taken .some)
+          (entry .pre .1 .1 .masked .taken .few)
+          (rw (painted-length _ _ _) (omega (arith, entry .pre .0 .shape .columns-most, entry .pre .1 .1 .above)))
+          (omega (arith, entry .pre .1 .1 .below, entry .pre .0 .shape .columns-most, at-lower .lower .given)) _
           (rw (at-weights .weights .ensures, at-copy .copy .ensures) at (at-blend-all .blend-all .ensures)) (entry .pre .0 .room),
-      entry .pre .1 .1 .0 .drawable,
+      entry .pre .1 .0 .drawable,
     )
 
 same-length : tie.Need-same-length
@@ -162,15 +174,16 @@ returns c =
       c .before .before .masked-row .ensures ∙ laws.quarter-by-table (entry .args .g) (entry .pre .0 .shape) (entry .args .pixels)
           (entry .args .frame) (entry .args .row) _ (at-frame-line .frame-line .ensures) (entry .args .shades) (entry .args .table .now)
           (entry .args .levels .now) (usValues (entry .args .masks .now)) (entry .args .down) (entry .args .right)
-          (entry .pre .1 .0 .right-most) _ _ (averaged-copy (entry .args .pixels .now) (entry .args .g) (usValues (entry .args .masks .now))
+          (entry .pre .1 .1 .masked .right-most) _ _ (averaged-copy (entry .args .pixels .now) (entry .args .g) (usValues
+          (entry .args .masks .now))
           (shifted (entry .args .down / 4) (entry .args .g .rows) (entry .args .row)) (entry .args .lower .now) (entry .args .upper .now)
-          (omega (arith, entry .pre .0 .shape .columns-most, entry .pre .1 .1 .1 .0)) (entry .pre .1 .1 .1 .1 .1))
-          (rw (at-moved .moved .ensures .0) at (at-average-row .average-row .ensures)) (entry .pre .1 .0 .taken .some)
-          (entry .pre .1 .0 .taken .few)
-          (rw (painted-length _ _ _) (omega (arith, entry .pre .0 .shape .columns-most, entry .pre .1 .1 .1 .0)))
-          (omega (arith, entry .pre .1 .1 .1 .1 .0, entry .pre .0 .shape .columns-most, at-lower .lower .given)) _
+          (omega (arith, entry .pre .0 .shape .columns-most, entry .pre .1 .1 .above)) (entry .pre .1 .1 .averaged))
+          (rw (at-moved .moved .ensures .0) at (at-average-row .average-row .ensures)) (entry .pre .1 .1 .masked .taken .some)
+          (entry .pre .1 .1 .masked .taken .few)
+          (rw (painted-length _ _ _) (omega (arith, entry .pre .0 .shape .columns-most, entry .pre .1 .1 .above)))
+          (omega (arith, entry .pre .1 .1 .below, entry .pre .0 .shape .columns-most, at-lower .lower .given)) _
           (rw (at-weights .weights .ensures, at-copy .copy .ensures) at (at-blend-all .blend-all .ensures))
-          (entry .pre .1 .1 .0 .shades (at-if1 .if1 .taken)),
+          (entry .pre .1 .0 .shades (at-if1 .if1 .taken)),
       next-row (entry .args .pixels .now) (entry .args .g)
           (usValues (entry .args .masks .now)) (entry .args .down / 4) (entry .args .row) _
           (rw (at-moved .moved .ensures .0) at (at-average-row .average-row .ensures)),
@@ -201,13 +214,14 @@ returns-2 c =
       c .before .before .masked-by-window .ensures ∙ laws.quarter-by-window (entry .args .g) (entry .pre .0 .shape) (entry .args .pixels)
           (entry .args .frame) (entry .args .row) _ (at-frame-line .frame-line .ensures) (entry .args .shades) (entry .args .table .now)
           (entry .args .levels .now) (usValues (entry .args .masks .now)) (entry .args .down) (entry .args .right)
-          (entry .pre .1 .0 .right-most) _ _ (averaged-copy (entry .args .pixels .now) (entry .args .g) (usValues (entry .args .masks .now))
+          (entry .pre .1 .1 .masked .right-most) _ _ (averaged-copy (entry .args .pixels .now) (entry .args .g) (usValues
+          (entry .args .masks .now))
           (shifted (entry .args .down / 4) (entry .args .g .rows) (entry .args .row)) (entry .args .lower .now) (entry .args .upper .now)
-          (omega (arith, entry .pre .0 .shape .columns-most, entry .pre .1 .1 .1 .0)) (entry .pre .1 .1 .1 .1 .1))
-          (rw (at-moved .moved .ensures .0) at (at-average-row .average-row .ensures)) (entry .pre .1 .0 .taken .some)
-          (entry .pre .1 .0 .taken .few)
-          (rw (painted-length _ _ _) (omega (arith, entry .pre .0 .shape .columns-most, entry .pre .1 .1 .1 .0)))
-          (omega (arith, entry .pre .1 .1 .1 .1 .0, entry .pre .0 .shape .columns-most, at-lower .lower .given)) _
+          (omega (arith, entry .pre .0 .shape .columns-most, entry .pre .1 .1 .above)) (entry .pre .1 .1 .averaged))
+          (rw (at-moved .moved .ensures .0) at (at-average-row .average-row .ensures)) (entry .pre .1 .1 .masked .taken .some)
+          (entry .pre .1 .1 .masked .taken .few)
+          (rw (painted-length _ _ _) (omega (arith, entry .pre .0 .shape .columns-most, entry .pre .1 .1 .above)))
+          (omega (arith, entry .pre .1 .1 .below, entry .pre .0 .shape .columns-most, at-lower .lower .given)) _
           (rw (at-weights .weights .ensures, at-copy .copy .ensures) at (at-blend-all .blend-all .ensures)),
       next-row
           (entry .args .pixels .now) (entry .args .g) (usValues (entry .args .masks .now)) (entry .args .down / 4) (entry .args .row) _

@@ -20,16 +20,26 @@ frame-line-requires c κs =
 
 moved-requires : tie.Need-moved-requires
 moved-requires c κs =
-    let entry = c .before .before .before .before .before .before in
-    (entry .pre .0 .lies, (entry .pre .0 .shape .rows-most, omega (arith, entry .pre .1 .0 .down-most, div-add-mod' (entry .args .down) 4)))
+    let entry = c .before .before .before .before .before .before in (
+      entry .pre .0 .lies,
+      (
+        entry .pre .0 .shape .rows-most,
+        omega (
+          arith,
+          entry .pre .1 .1 .masked .down-most,
+          div-add-mod'
+              (entry .args .down) 4,
+        ),
+      ),
+    )
 
 mask-row-requires : tie.Need-mask-row-requires
 mask-row-requires c κs =
     let entry = c .before .before .before .before .before .before .before .before in (
       entry .pre .0 .shape,
       (
-        entry .pre .1 .0 .taken,
-        (c .before .moved .ensures .1, omega (arith, entry .pre .1 .1 .1 .1 .1 .1, entry .pre .0 .shape .columns-most)),
+        entry .pre .1 .1 .masked .taken,
+        (c .before .moved .ensures .1, omega (arith, entry .pre .1 .1 .room, entry .pre .0 .shape .columns-most)),
       ),
     )
 
@@ -43,12 +53,12 @@ draw-row-requires c κs =
     record {
       row = laws.line-row (entry .args .g) (entry .pre .0 .shape) (entry .args .pixels) (entry .args .frame) (entry .args .row) _
           (at-frame-line .frame-line .ensures);
-      some = omega (arith, usValues-length (entry .args .masks .now), entry .pre .1 .0 .taken .some);
-      few = omega (arith, usValues-length (entry .args .masks .now), entry .pre .1 .0 .taken .few);
-      most = omega (arith, entry .pre .1 .0 .right-most, div-add-mod' (entry .args .right) 4);
-      shades = omega (arith, entry .pre .1 .1 .0 .shades (entry .pre .1 .1 .1 .0) .size);
+      some = omega (arith, usValues-length (entry .args .masks .now), entry .pre .1 .1 .masked .taken .some);
+      few = omega (arith, usValues-length (entry .args .masks .now), entry .pre .1 .1 .masked .taken .few);
+      most = omega (arith, entry .pre .1 .1 .masked .right-most, div-add-mod' (entry .args .right) 4);
+      shades = omega (arith, entry .pre .1 .0 .shades (entry .pre .1 .1 .is-filled) .size);
       summed = λ k l. (
-        omega (arith, at-sums .sums .given, entry .pre .1 .1 .1 .1 .1 .1, entry .pre .0 .shape .columns-most),
+        omega (arith, at-sums .sums .given, entry .pre .1 .1 .room, entry .pre .0 .shape .columns-most),
         spread-most (entry .args .pixels .now) (entry .args .g) (usValues (entry .args .masks .now)) (at-moved .moved .result) _ _
             (sym (usValues-length (entry .args .masks .now))) (at-mask-row .mask-row .ensures) k l,
       );
@@ -70,8 +80,8 @@ returns c =
     c .before .before .draw-row .ensures ∙ laws.whole-by-table (entry .args .g) (entry .pre .0 .shape) (entry .args .pixels)
     (entry .args .frame) (entry .args .row) _ (at-frame-line .frame-line .ensures) (entry .args .shades) (entry .args .table .now)
     (entry .args .levels .now) (usValues (entry .args .masks .now)) (entry .args .down) (entry .args .right)
-    (entry .pre .1 .0 .right-most) (entry .pre .1 .1 .0 .shades (entry .pre .1 .1 .1 .0)) _ _ (entry .pre .1 .1 .1 .1 .0)
-    (entry .pre .1 .1 .1 .1 .1 .0) (omega (arith, entry .pre .1 .0 .right-most, div-add-mod' (entry .args .right) 4))
+    (entry .pre .1 .1 .masked .right-most) (entry .pre .1 .0 .shades (entry .pre .1 .1 .is-filled)) _ _ (entry .pre .1 .1 .down-whole)
+    (entry .pre .1 .1 .right-whole) (omega (arith, entry .pre .1 .1 .masked .right-most, div-add-mod' (entry .args .right) 4))
     (sym (usValues-length (entry .args .masks .now))) (rw (← at-moved .moved .ensures .0) (at-mask-row .mask-row .ensures))
 
 pub whole-line-spec : {M : Type 1} → statement M

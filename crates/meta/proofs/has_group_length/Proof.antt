@@ -1,4 +1,4 @@
--- The tests are those of the definition, in its order, and 144 bytes are enough for each of them.
+-- The tests are those of the definition, in its order, and the bytes up to the end of the group length are enough for each of them.
 use native.Mathlib.Omega.{arith}
 use mathlib.Core.Path.{sym, _∙_}
 use Rattle.meta.proofs.Tests as tests

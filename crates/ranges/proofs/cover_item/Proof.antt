@@ -15,8 +15,8 @@ add-item c = search needs
 cast-item : tie.Need-cast-item
 cast-item c = search needs
 
-find-item-requires : tie.Need-find-item-requires
-find-item-requires c κs = search needs
+find-in-item-requires : tie.Need-find-in-item-requires
+find-in-item-requires c κs = search needs
 
 enum-told : tie.Need-enum-told
 enum-told c = search needs
@@ -30,9 +30,9 @@ enum-known-i c = search needs
 cover-range-requires : tie.Need-cover-range-requires
 cover-range-requires c κs =
     let at-i = c .before .before .before in
-    let at-find-item = at-i .before .before in
-    let entry = at-find-item .before .before .before .before .before in
-    (entry .pre .0, (node-laws.within _ (at-i .i .given .1) (at-find-item .find-item .ensures .1), entry .pre .1 .1))
+    let at-find-in-item = at-i .before .before in
+    let entry = at-find-in-item .before .before .before .before .before in
+    (entry .pre .0, (node-laws.within _ (at-i .i .given .1) (at-find-in-item .find-in-item .ensures .1), entry .pre .1 .1))
 
 same-length : tie.Need-same-length
 same-length c = search needs
@@ -45,10 +45,10 @@ unfolding rangeHolds
 returns c =
     let at-cover-all = c .before .before .before .before in
     let at-enum-told = at-cover-all .before .before .before in
-    let at-find-item = at-enum-told .before .before in
-    let entry = at-find-item .before .before .before .before .before in
+    let at-find-in-item = at-enum-told .before .before in
+    let entry = at-find-in-item .before .before .before .before .before in
     items.tried-by (λ f. true) (λ f. rangeHolds (nodesOf (entry .args .bytes .now)) f (entry .args .j)) _ _ _ _
-    (λ f. rw (node-laws.had-none (at-enum-told .enum-told .given .1) (at-find-item .find-item .ensures .0)))
+    (λ f. rw (node-laws.had-none (at-enum-told .enum-told .given .1) (at-find-in-item .find-in-item .ensures .0)))
     (at-cover-all .cover-all .ensures)
 
 same-length-3 : tie.Need-same-length-3
@@ -62,11 +62,11 @@ unfolding rangeHolds
 returns-2 c =
     let at-cover-range = c .before .before .before .before in
     let at-i = at-cover-range .before .before .before .before in
-    let at-find-item = at-i .before .before in
-    let entry = at-find-item .before .before .before .before .before in
+    let at-find-in-item = at-i .before .before in
+    let entry = at-find-in-item .before .before .before .before .before in
     items.tried-same (λ f. rangeHas (nodesOf (entry .args .bytes .now)) f (num.Is (at-i .i .given .0 .0)))
     (λ f. rangeHolds (nodesOf (entry .args .bytes .now)) f (entry .args .j)) _ _ _ _
-    (λ f. rw (node-laws.had (at-i .i .given .1) (at-find-item .find-item .ensures .0))) (at-cover-range .cover-range .ensures)
+    (λ f. rw (node-laws.had (at-i .i .given .1) (at-find-in-item .find-in-item .ensures .0))) (at-cover-range .cover-range .ensures)
 
 pub cover-item-spec : {M : Type 1} → statement M
 cover-item-spec =
@@ -74,7 +74,7 @@ cover-item-spec =
     (tie.spec
     add-item
     cast-item
-    find-item-requires
+    find-in-item-requires
     enum-told
     cover-all-requires
     enum-known-i

@@ -3,8 +3,8 @@ use mathlib.Core.Path.{_∙_, sym}
 use Rattle.value.specs.Number.{usValues}
 use Rattle.value.specs.declared.Num.the-variants as num
 use Rattle.node.specs.Nodes.{nodesOf}
-use Rattle.steps.specs.Steps.{inPairs, rangeHas}
-use Rattle.steps.proofs.Laws as steps-laws
+use Rattle.steps.specs.Steps.{isInPairs, rangeHas}
+use Rattle.element.proofs.Laws as element-laws
 use Rattle.ranges.proofs.Items as items
 use borrow.Author.Needs.{needs}
 use Rattle.ranges.proofs.cover_range.Statement.{statement}
@@ -23,7 +23,7 @@ cover-pairs-requires c κs =
     let entry = at-has-pairs .before .before .before .before .before in
     let a = entry .args in (
       rw (c .before .before .value .ensures)
-          (steps-laws.pairs-whole (nodesOf (a .bytes .now)) (a .i) (sym (at-has-pairs .has-pairs .ensures) ∙ at-if1 .if1 .taken)),
+          (element-laws.pairs-whole (nodesOf (a .bytes .now)) (a .i) (sym (at-has-pairs .has-pairs .ensures) ∙ at-if1 .if1 .taken)),
       entry .pre .1 .1,
     )
 
@@ -42,7 +42,7 @@ returns c =
     let entry = at-has-pairs .before .before .before .before .before in
     let a = entry .args in
     let ns = nodesOf (a .bytes .now) in
-    items.tried-by (λ f. inPairs f (usValues (at-value .value .result .now))) (λ f. rangeHas ns f (num.Is (a .i))) _ _ _ _
+    items.tried-by (λ f. isInPairs f (usValues (at-value .value .result .now))) (λ f. rangeHas ns f (num.Is (a .i))) _ _ _ _
     (λ f. rw (← at-has-pairs .has-pairs .ensures, at-if1 .if1 .taken, ← at-value .value .ensures))
     (at-cover-pairs .cover-pairs .ensures)
 

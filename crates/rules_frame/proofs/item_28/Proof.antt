@@ -5,8 +5,8 @@ use borrow.Author.Needs.{needs}
 use Rattle.rules_frame.proofs.item_28.Statement.{statement}
 use Rattle.rules_frame.proofs.item_28.Tie as tie
 
-find-item-requires : tie.Need-find-item-requires
-find-item-requires c κs = search needs
+find-in-item-requires : tie.Need-find-in-item-requires
+find-in-item-requires c κs = search needs
 
 enum-told : tie.Need-enum-told
 enum-told c = search needs
@@ -16,24 +16,24 @@ enum-known-g c = search needs
 
 is-one-item-requires : tie.Need-is-one-item-requires
 is-one-item-requires c κs =
-    let at-find-item = c .before .before .before in
-    let entry = at-find-item .before .before .before .before in
-    (entry .pre .0, node-laws.within _ (c .before .g .given .1) (at-find-item .find-item .ensures .1))
+    let at-find-in-item = c .before .before .before in
+    let entry = at-find-in-item .before .before .before .before in
+    (entry .pre .0, node-laws.within _ (c .before .g .given .1) (at-find-in-item .find-in-item .ensures .1))
 
 returns : tie.Need-returns
 unfolding item28
 returns c =
     let at-if1 = c .before .before .before in
     let entry = at-if1 .before .before .before in
-    rw (← entry .pre .1 .1, at-if1 .if1 .taken, node-laws.had-none (c .enum-told .given .1) (c .before .before .find-item .ensures .0))
+    rw (← entry .pre .1 .1, at-if1 .if1 .taken, node-laws.had-none (c .enum-told .given .1) (c .before .before .find-in-item .ensures .0))
 
 returns-2 : tie.Need-returns-2
 unfolding item28
 returns-2 c =
-    let at-find-item = c .before .before .before .before in
-    let at-if1 = at-find-item .before in
+    let at-find-in-item = c .before .before .before .before in
+    let at-if1 = at-find-in-item .before in
     let entry = at-if1 .before .before .before in
-    rw (← entry .pre .1 .1, at-if1 .if1 .taken, node-laws.had (c .before .before .g .given .1) (at-find-item .find-item .ensures .0))
+    rw (← entry .pre .1 .1, at-if1 .if1 .taken, node-laws.had (c .before .before .g .given .1) (at-find-in-item .find-in-item .ensures .0))
     (c .is-one-item .ensures)
 
 returns-3 : tie.Need-returns-3
@@ -46,7 +46,7 @@ pub item-28-spec : {M : Type 1} → statement M
 item-28-spec =
     tie.close
     (tie.spec
-    find-item-requires
+    find-in-item-requires
     enum-told
     enum-known-g
     is-one-item-requires

@@ -12,8 +12,8 @@ relation-in-requires c κs = search needs
 table-in-requires : tie.Need-table-in-requires
 table-in-requires c κs = search needs
 
-do-agree-requires : tie.Need-do-agree-requires
-do-agree-requires c κs = search needs
+grades-agree-requires : tie.Need-grades-agree-requires
+grades-agree-requires c κs = search needs
 
 returns : tie.Need-returns
 unfolding itemGrades sharedPart
@@ -24,8 +24,8 @@ returns c =
       ← ap (λ (p : SharedPart). p .table) (entry .pre .1 .1),
       ← c .before .before .relation-in .ensures,
       ← c .before .table-in .ensures,
-    ) (c .do-agree .ensures)
+    ) (c .grades-agree .ensures)
 
 pub item-39-spec : {M : Type 1} → statement M
 item-39-spec =
-    tie.close (tie.spec relation-in-requires table-in-requires do-agree-requires returns)
+    tie.close (tie.spec relation-in-requires table-in-requires grades-agree-requires returns)

@@ -18,9 +18,9 @@ item-39-requires c κs =
       ),
     )
 
-item-by-requires : tie.Need-item-by-requires
+item-holds-requires : tie.Need-item-holds-requires
 unfolding sharedPart
-item-by-requires c κs =
+item-holds-requires c κs =
     let entry = c .before .before .before in (
       entry .pre .0,
       (entry .pre .1 .0, (entry .pre .1 .1 .0, ap (λ (p : SharedPart). p .ok) (rw (ne-eqb _ _ (c .if1 .left)) at (entry .pre .1 .1 .1)))),
@@ -34,7 +34,7 @@ returns c =
 returns-2 : tie.Need-returns-2
 unfolding itemRule
 returns-2 c =
-    rw (ne-eqb _ _ (c .before .if1 .left)) (c .item-by .ensures)
+    rw (ne-eqb _ _ (c .before .if1 .left)) (c .item-holds .ensures)
 
 pub item-rule-spec : {M : Type 1} → statement M
-item-rule-spec = tie.close (tie.spec item-39-requires item-by-requires returns returns-2)
+item-rule-spec = tie.close (tie.spec item-39-requires item-holds-requires returns returns-2)

@@ -8,8 +8,8 @@ use Rattle.rules_frame.proofs.shared_ok.Tie as tie
 is-content-absent-requires : tie.Need-is-content-absent-requires
 is-content-absent-requires c κs = search needs
 
-group-in-requires : tie.Need-group-in-requires
-group-in-requires c κs = search needs
+group-holds-requires : tie.Need-group-holds-requires
+group-holds-requires c κs = search needs
 
 returns : tie.Need-returns
 unfolding sharedOk
@@ -24,8 +24,8 @@ returns-2 c =
 returns-3 : tie.Need-returns-3
 unfolding sharedOk
 returns-3 c =
-    rw (ne-eqb _ _ (c .before .before .if1 .left), ne-eqb _ _ (c .before .if2 .left)) (c .group-in .ensures)
+    rw (ne-eqb _ _ (c .before .before .if1 .left), ne-eqb _ _ (c .before .if2 .left)) (c .group-holds .ensures)
 
 pub shared-ok-spec : {M : Type 1} → statement M
 shared-ok-spec =
-    tie.close (tie.spec is-content-absent-requires group-in-requires returns returns-2 returns-3)
+    tie.close (tie.spec is-content-absent-requires group-holds-requires returns returns-2 returns-3)

@@ -20,8 +20,8 @@ Inv-loop bytes rows shared shared-has end at₀ at =
 abbrev μ-loop : tie.MeasureT-loop
 μ-loop bytes rows shared shared-has end at₀ at = end - at
 
-shift-in-requires : tie.Need-shift-in-requires Inv-loop μ-loop
-shift-in-requires c κs = search needs
+has-shifts-requires : tie.Need-has-shifts-requires Inv-loop μ-loop
+has-shifts-requires c κs = search needs
 
 frame-items-requires : tie.Need-frame-items-requires Inv-loop μ-loop
 frame-items-requires c κs = search needs
@@ -31,15 +31,15 @@ unfolding anyShift
 loop-holds c =
     (rw (← c .frame-items .ensures .ahead), c .frame-items .ensures .inner)
 
-shift-in-requires-2 : tie.Need-shift-in-requires-2 Inv-loop μ-loop
-shift-in-requires-2 c κs = search needs
+has-shifts-requires-2 : tie.Need-has-shifts-requires-2 Inv-loop μ-loop
+has-shifts-requires-2 c κs = search needs
 
 returns : tie.Need-returns Inv-loop μ-loop
 returns c =
     let at-loop = c .before .before .before in
-    let at-shift-in = at-loop .before .before in
+    let at-has-shifts = at-loop .before .before in
     sym (some-here _ _ _ _ (c .before .before .loop-test .taken)
-    (laws.shift-found _ _ _ _ _ _ (at-shift-in .shift-in .ensures) (c .before .shift-in2 .ensures) (c .if1 .taken)))
+    (laws.shift-found _ _ _ _ _ _ (at-has-shifts .has-shifts .ensures) (c .before .has-shifts2 .ensures) (c .if1 .taken)))
     ∙ at-loop .loop .inv .0
 
 next-requires : tie.Need-next-requires Inv-loop μ-loop
@@ -55,9 +55,10 @@ loop-again : tie.Need-loop-again Inv-loop μ-loop
 loop-again c =
     let at-loop-test = c .before .before .before in
     let at-loop = at-loop-test .before in
-    let at-shift-in = at-loop .before .before in (
+    let at-has-shifts = at-loop .before .before in (
       sym (some-next _ _ _ _ _ (c .next .ensures .0) (at-loop-test .loop-test .taken)
-          (laws.shift-found _ _ _ _ _ _ (at-shift-in .shift-in .ensures) (c .before .before .shift-in2 .ensures) (c .before .if1 .left)))
+          (laws.shift-found _ _ _ _ _ _ (at-has-shifts .has-shifts .ensures) (c .before .before .has-shifts2 .ensures)
+          (c .before .if1 .left)))
           ∙ at-loop .loop .inv .0,
       at-loop .loop .inv .1,
     )
@@ -72,10 +73,10 @@ any-shift-spec =
     (tie.spec
     Inv-loop
     μ-loop
-    shift-in-requires
+    has-shifts-requires
     frame-items-requires
     loop-holds
-    shift-in-requires-2
+    has-shifts-requires-2
     returns
     next-requires
     loop-less

@@ -14,8 +14,8 @@ slice-aggregate-is-cs-item c = search needs
 is-cs-item-requires : tie.Need-is-cs-item-requires
 is-cs-item-requires c κs = search needs
 
-find-item-requires : tie.Need-find-item-requires
-find-item-requires c κs = search needs
+find-in-item-requires : tie.Need-find-in-item-requires
+find-in-item-requires c κs = search needs
 
 enum-told : tie.Need-enum-told
 enum-told c = search needs
@@ -25,9 +25,9 @@ enum-known-i c = search needs
 
 is-offset-requires : tie.Need-is-offset-requires
 is-offset-requires c κs =
-    let at-find-item = c .before .before .before in
-    let entry = at-find-item .before .before .before .before .before .before in
-    (entry .pre .0, node-laws.within _ (c .before .i .given .1) (at-find-item .find-item .ensures .1))
+    let at-find-in-item = c .before .before .before in
+    let entry = at-find-in-item .before .before .before .before .before .before in
+    (entry .pre .0, node-laws.within _ (c .before .i .given .1) (at-find-in-item .find-in-item .ensures .1))
 
 returns : tie.Need-returns
 unfolding offsetFits operationIs
@@ -35,16 +35,16 @@ returns c =
     let at-if1 = c .before .before .before in
     let at-is-cs-item = at-if1 .before in
     sym (laws.then _ (sym (at-is-cs-item .is-cs-item .ensures) ∙ at-if1 .if1 .taken)
-    (sym (rw (node-laws.had-none (c .enum-told .given .1) (c .before .before .find-item .ensures .0)))))
+    (sym (rw (node-laws.had-none (c .enum-told .given .1) (c .before .before .find-in-item .ensures .0)))))
 
 returns-2 : tie.Need-returns-2
 unfolding offsetFits operationIs
 returns-2 c =
-    let at-find-item = c .before .before .before .before in
-    let at-if1 = at-find-item .before in
+    let at-find-in-item = c .before .before .before .before in
+    let at-if1 = at-find-in-item .before in
     let at-is-cs-item = at-if1 .before in
     sym (laws.then _ (sym (at-is-cs-item .is-cs-item .ensures) ∙ at-if1 .if1 .taken)
-    (sym (rw (node-laws.had (c .before .before .i .given .1) (at-find-item .find-item .ensures .0)) (c .is-offset .ensures))))
+    (sym (rw (node-laws.had (c .before .before .i .given .1) (at-find-in-item .find-in-item .ensures .0)) (c .is-offset .ensures))))
 
 returns-3 : tie.Need-returns-3
 unfolding offsetFits operationIs
@@ -57,7 +57,7 @@ offset-fits-spec =
     (tie.spec
     slice-aggregate-is-cs-item
     is-cs-item-requires
-    find-item-requires
+    find-in-item-requires
     enum-told
     enum-known-i
     is-offset-requires

@@ -4,6 +4,7 @@ use native.Mathlib.Omega.{arith}
 use native.Mathlib.Nat.{mul-assoc}
 use Rattle.rules_root.proofs.Laws as laws
 use Rattle.rules.specs.Pixels.{isPixelData}
+use Rattle.value.specs.Number.{integerLimit}
 use borrow.Author.Needs.{needs}
 use Rattle.rules_root.proofs.is_pixel_data.Statement.{statement}
 use Rattle.rules_root.proofs.is_pixel_data.Tie as tie
@@ -20,7 +21,7 @@ value-requires c κs = search needs
 mul-is-padded : tie.Need-mul-is-padded
 mul-is-padded c =
     let entry = c .before .before .before .before .before .before in
-    omega (arith, laws.product-fits (entry .args .frames) (entry .args .height) 100000000000 65536 (omega arith) (omega arith))
+    omega (arith, laws.product-fits (entry .args .frames) (entry .args .height) integerLimit 65536 (omega arith) (omega arith))
 
 mul-is-padded-2 : tie.Need-mul-is-padded-2
 mul-is-padded-2 c =

@@ -1,4 +1,4 @@
--- The two arms are those of the definition.
+-- The SOP class picks the arm, and in each arm the test of the modality is that of the definition.
 use Rattle.rules.specs.Root.{rule2}
 use borrow.Author.Needs.{needs}
 use Rattle.rules_root.proofs.rule_2.Statement.{statement}

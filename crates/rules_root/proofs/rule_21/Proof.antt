@@ -1,4 +1,4 @@
--- The two arms are those of the definition.
+-- The photometric word picks the arm, and in each arm the test of the shape is that of the definition.
 use Rattle.rules.specs.Root.{rule21}
 use borrow.Author.Needs.{needs}
 use Rattle.rules_root.proofs.rule_21.Statement.{statement}

@@ -1,4 +1,4 @@
--- The two arms are those of the definition.
+-- Of an ORIGINAL image the test of the radiation is that of the definition; otherwise the rule asks nothing.
 use Rattle.rules.specs.Root.{rule22}
 use borrow.Author.Needs.{needs}
 use Rattle.rules_root.proofs.rule_22.Statement.{statement}

@@ -4,6 +4,7 @@ use denote.Ref.{now}
 use Rattle.node.specs.Nodes.{nodesOf}
 use Rattle.rules_root.proofs.Laws as laws
 use Rattle.rules.specs.Pixels.{rule38}
+use Rattle.value.specs.Number.{integerLimit}
 use borrow.Author.Needs.{needs}
 use Rattle.rules_root.proofs.rule_38.Statement.{statement}
 use Rattle.rules_root.proofs.rule_38.Tie as tie
@@ -142,7 +143,7 @@ is-pixel-data-requires c κs =
       (
         node-laws.within _ (c .before .i .given .1) (at-find-root .find-root .ensures .1),
         (
-          node-laws.within 100000000000 (at-frames .frames .given .1) (at-frame-count .frame-count .ensures .1),
+          node-laws.within integerLimit (at-frames .frames .given .1) (at-frame-count .frame-count .ensures .1),
           (
             node-laws.within 65536 (at-height .height .given .1) (at-us-root .us-root .ensures .1),
             (

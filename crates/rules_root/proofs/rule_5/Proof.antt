@@ -1,4 +1,4 @@
--- The two arms are those of the definition.
+-- With UNDEFINED planes the test of Image Type is that of the definition; otherwise the rule asks nothing.
 use Rattle.rules.specs.Root.{rule5}
 use borrow.Author.Needs.{needs}
 use Rattle.rules_root.proofs.rule_5.Statement.{statement}

@@ -1,4 +1,4 @@
--- The two arms are those of the definition.
+-- The planes pick the arm: the element is absent with UNDEFINED, and otherwise present and not empty, as in the definition.
 use Rattle.rules.specs.Root.{rule6}
 use borrow.Author.Needs.{needs}
 use Rattle.rules_root.proofs.rule_6.Statement.{statement}

@@ -1,4 +1,4 @@
--- The test of an element that is had is the definition.
+-- The test that an element is present and not empty is the definition.
 use Rattle.rules.specs.Root.{rule8}
 use borrow.Author.Needs.{needs}
 use Rattle.rules_root.proofs.rule_8.Statement.{statement}

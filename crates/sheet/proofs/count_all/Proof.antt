@@ -4,6 +4,7 @@ use Prim.Native.Nat.{ℕ}
 use native.Mathlib.Omega.{arith}
 use lib.ListN.{length-replicate}
 use Rattle.display.proofs.Scenes as scenes
+use Rattle.basics.specs.Limits.{mostMasks}
 use Rattle.sheet.proofs.Scenes as counted
 use borrow.Author.Needs.{needs}
 use Rattle.sheet.proofs.count_all.Statement.{statement}
@@ -15,15 +16,19 @@ slice-aggregate-apply-all c = search needs
 apply-all-requires : tie.Need-apply-all-requires
 apply-all-requires c κs =
     let entry = c .before .before .before .before .before .before .before .before in (
-      entry .pre .0,
+      entry .pre .0 .table,
       (
         record {
-          few = omega (arith, scenes.few-frames (entry .args .bytes .now) (entry .args .n) (entry .pre .1 .0));
-          marks = omega (arith, entry .pre .1 .1 .1 .1 .1 .1 .1 .above);
-          frames = omega
-              (arith, scenes.few-frames (entry .args .bytes .now) (entry .args .n) (entry .pre .1 .0), length-replicate {A = ℕ} 65536 0);
+          few = omega (arith, scenes.few-frames (entry .args .bytes .now) (entry .args .n) (entry .pre .0 .object));
+          marks = omega (arith, entry .pre .1 .above);
+          frames = omega (
+            arith,
+            scenes.few-frames (entry .args .bytes .now) (entry .args .n)
+                (entry .pre .0 .object),
+            length-replicate {A = ℕ} 65536 0,
+          );
         },
-        counted.answering (entry .args .bytes .now) (entry .args .n) (entry .pre .1 .0),
+        counted.answering (entry .args .bytes .now) (entry .args .n) (entry .pre .0 .object),
       ),
     )
 
@@ -36,7 +41,7 @@ slice-aggregate-tell-all-2 c = search needs
 tell-all-requires : tie.Need-tell-all-requires
 tell-all-requires c κs =
     let entry = c .before .before .before .before .before .before .before .before .before .before .before .before .before .before in
-    (entry .pre .0, (omega (arith, length-replicate {A = ℕ} 16 0), omega (arith, length-replicate {A = ℕ} 16 0)))
+    (entry .pre .0 .table, (omega (arith, length-replicate {A = ℕ} mostMasks 0), omega (arith, length-replicate {A = ℕ} mostMasks 0)))
 
 slice-aggregate-count-frames : tie.Need-slice-aggregate-count-frames
 slice-aggregate-count-frames c = search needs
@@ -58,42 +63,24 @@ count-frames-requires c κs =
     let entry = at-apply-all .before .before .before .before .before .before .before .before .before in (
       entry .pre .0,
       (
-        entry .pre .1 .0,
-        (
-          entry .pre .1 .1 .0,
-          (
-            entry .pre .1 .1 .1 .0,
-            (
-              entry .pre .1 .1 .1 .1 .0,
-              (
-                entry .pre .1 .1 .1 .1 .1 .0,
-                (
-                  entry .pre .1 .1 .1 .1 .1 .1 .0,
-                  (
-                    record {
-                      shades = entry .pre .1 .1 .1 .1 .1 .1 .1 .shades;
-                      above = omega (arith, at-upper .upper .given, entry .pre .1 .1 .1 .1 .1 .1 .1 .above);
-                      below = entry .pre .1 .1 .1 .1 .1 .1 .1 .below;
-                      wide = entry .pre .1 .1 .1 .1 .1 .1 .1 .wide;
-                    },
-                    record {
-                      applied = at-apply-all .apply-all .ensures;
-                      size = omega (
-                        arith,
-                        at-which2 .which2 .given,
-                        length-replicate {A = ℕ} 65536 0,
-                        scenes.few-frames (entry .args .bytes .now) (entry .args .n) (entry .pre .1 .0),
-                      );
-                      known = at-tell-all .tell-all .ensures;
-                      key-room = omega (arith, at-keys2 .keys2 .given, length-replicate {A = ℕ} 16 0);
-                      answer-room = omega (arith, at-answers2 .answers2 .given, length-replicate {A = ℕ} 16 0);
-                    },
-                  ),
-                ),
-              ),
-            ),
-          ),
-        ),
+        record {
+          shades = entry .pre .1 .shades;
+          above = omega (arith, at-upper .upper .given, entry .pre .1 .above);
+          below = entry .pre .1 .below;
+          wide = entry .pre .1 .wide;
+        },
+        record {
+          applied = at-apply-all .apply-all .ensures;
+          size = omega (
+            arith,
+            at-which2 .which2 .given,
+            length-replicate {A = ℕ} 65536 0,
+            scenes.few-frames (entry .args .bytes .now) (entry .args .n) (entry .pre .0 .object),
+          );
+          known = at-tell-all .tell-all .ensures;
+          key-room = omega (arith, at-keys2 .keys2 .given, length-replicate {A = ℕ} mostMasks 0);
+          answer-room = omega (arith, at-answers2 .answers2 .given, length-replicate {A = ℕ} mostMasks 0);
+        },
       ),
     )
 
@@ -103,7 +90,9 @@ same-length c = search needs
 same-length-2 : tie.Need-same-length-2
 same-length-2 c =
     let at-upper2 = c .before .before .before .before .before in
-    let at-upper = at-upper2 .before .before .before .before .before .before .before .before .before .before .before .before .before .before .before .before .before .before in
+    let at-count-frames = at-upper2 .before .before .before in
+    let at-upper = at-count-frames .before .before .before .before .before .before .before .before .before .before .before .before .before
+    .before .before in
     at-upper2 .upper2 .given ∙ at-upper .upper .given
 
 same-length-3 : tie.Need-same-length-3

@@ -16,161 +16,145 @@ value-part-requires c κs =
     (entry .pre .0, entry .pre .1 .0 .below)
 
 enum-told : tie.Need-enum-told
-enum-told c =
-    search needs
+enum-told c = search needs
 
-count-native-requires : tie.Need-count-native-requires
-count-native-requires c κs =
-    let at-value-part = c .before .before .before in
+slice-aggregate-count-lines : tie.Need-slice-aggregate-count-lines
+slice-aggregate-count-lines c = search needs
+
+count-lines-requires : tie.Need-count-lines-requires
+count-lines-requires c κs =
+    let at-value-part = c .before .before .before .before .before .before in
     let entry = at-value-part .before .before .before .before .before .before .before .before in
     let e = at-value-part .value-part .ensures .bytes
     ∙ scenes.pixel-bytes (entry .args .bytes .now) (entry .args .rows .now) (entry .pre .0) (entry .args .c .p) (entry .pre .1 .0) in
-    rw e (entry .pre .1 .1 .0, (entry .pre .1 .1 .1 .1 .0, entry .pre .1 .1 .1 .1 .1 .1 .1))
+    rw e (entry .pre .1 .1 .0, (tt, entry .pre .1 .1 .1 .1))
 
 enum-known-masking : tie.Need-enum-known-masking
-enum-known-masking c =
-    search needs
+enum-known-masking c = search needs
 
 value-requires : tie.Need-value-requires
 value-requires c κs =
     let entry = c .before .before .before .before .before .before .before .before .before .before .before in
-    let m = subst (λ (x : Masking). MasksReady (nodesOf (entry .args .bytes .now))
-    (valueAt (nodesOf (entry .args .bytes .now)) (entry .args .c .p)) (entry .args .c .g) x) (c .before .masking .given .1)
-    (entry .pre .1 .1 .1 .0) in
+    let m = subst (λ (x : Masking). MasksReady (nodesOf (entry .args .bytes .now)) (valueAt (nodesOf (entry .args .bytes .now))
+    (entry .args .c .p))
+    (entry .args .c .g) x) (c .before .masking .given .1) (entry .pre .1 .1 .1 .0) in
     (entry .pre .0, m .0)
 
-count-moved-requires : tie.Need-count-moved-requires
-count-moved-requires c κs =
+count-masked-requires : tie.Need-count-masked-requires
+count-masked-requires c κs =
     let at-value = c .before .before .before in
     let at-masking = at-value .before .before in
     let at-value-part = at-masking .before .before in
     let entry = at-value-part .before .before .before .before .before .before .before .before in
     let e = at-value-part .value-part .ensures .bytes
     ∙ scenes.pixel-bytes (entry .args .bytes .now) (entry .args .rows .now) (entry .pre .0) (entry .args .c .p) (entry .pre .1 .0) in
-    let m = subst (λ (x : Masking). MasksReady (nodesOf (entry .args .bytes .now))
-    (valueAt (nodesOf (entry .args .bytes .now)) (entry .args .c .p)) (entry .args .c .g) x) (at-masking .masking .given .1)
-    (entry .pre .1 .1 .1 .0) in
-    rw (e, at-value .value .ensures) (
-      entry .pre .1 .1 .0,
-      (
-        m .1 .0,
-        (
-          m .1 .1,
-          (entry .pre .1 .1 .1 .1 .0, (entry .pre .1 .1 .1 .1 .1 .0, (entry .pre .1 .1 .1 .1 .1 .1 .0, entry .pre .1 .1 .1 .1 .1 .1 .1))),
-        ),
-      ),
-    )
+    let m = subst (λ (x : Masking). MasksReady (nodesOf (entry .args .bytes .now)) (valueAt (nodesOf (entry .args .bytes .now))
+    (entry .args .c .p))
+    (entry .args .c .g) x) (at-masking .masking .given .1) (entry .pre .1 .1 .1 .0) in
+    rw (e, at-value .value .ensures) (entry .pre .1 .1 .0, (m .1 .0, (m .1 .1, entry .pre .1 .1 .1 .1)))
 
 enum-known-masking-2 : tie.Need-enum-known-masking-2
-enum-known-masking-2 c =
-    search needs
+enum-known-masking-2 c = search needs
 
-cast-t30 : tie.Need-cast-t30
-cast-t30 c =
-    search needs
+cast-t38 : tie.Need-cast-t38
+cast-t38 c = search needs
 
-cast-t33 : tie.Need-cast-t33
-cast-t33 c =
-    search needs
+cast-t41 : tie.Need-cast-t41
+cast-t41 c = search needs
 
-slice-aggregate-count-moved : tie.Need-slice-aggregate-count-moved
-slice-aggregate-count-moved c =
-    search needs
+slice-aggregate-count-masked : tie.Need-slice-aggregate-count-masked
+slice-aggregate-count-masked c = search needs
 
-count-moved-requires-2 : tie.Need-count-moved-requires-2
-count-moved-requires-2 c κs =
+count-masked-requires-2 : tie.Need-count-masked-requires-2
+count-masked-requires-2 c κs =
     let at-masking2 = c .before .before .before .before .before in
     let at-value-part = at-masking2 .before .before in
     let entry = at-value-part .before .before .before .before .before .before .before .before in
     let e = at-value-part .value-part .ensures .bytes
     ∙ scenes.pixel-bytes (entry .args .bytes .now) (entry .args .rows .now) (entry .pre .0) (entry .args .c .p) (entry .pre .1 .0) in
-    let m = subst (λ (x : Masking). MasksReady (nodesOf (entry .args .bytes .now))
-    (valueAt (nodesOf (entry .args .bytes .now)) (entry .args .c .p)) (entry .args .c .g) x) (at-masking2 .masking2 .given .1)
-    (entry .pre .1 .1 .1 .0) in
+    let m = subst (λ (x : Masking). MasksReady (nodesOf (entry .args .bytes .now)) (valueAt (nodesOf (entry .args .bytes .now))
+    (entry .args .c .p))
+    (entry .args .c .g) x) (at-masking2 .masking2 .given .1) (entry .pre .1 .1 .1 .0) in
     rw e (
       entry .pre .1 .1 .0,
       (
         pair-masks (valueAt (nodesOf (entry .args .bytes .now)) (entry .args .c .p)) (entry .args .c .g)
             (at-masking2 .masking2 .given .0 .0) (m .0) (m .1 .0),
-        (
-          m .1 .1,
-          (entry .pre .1 .1 .1 .1 .0, (entry .pre .1 .1 .1 .1 .1 .0, (entry .pre .1 .1 .1 .1 .1 .1 .0, entry .pre .1 .1 .1 .1 .1 .1 .1))),
-        ),
+        (m .1 .1, entry .pre .1 .1 .1 .1),
       ),
     )
 
 enum-told-2 : tie.Need-enum-told-2
-enum-told-2 c =
-    search needs
+enum-told-2 c = search needs
 
 same-length : tie.Need-same-length
-same-length c =
-    search needs
+same-length c = search needs
+
+same-length-2 : tie.Need-same-length-2
+same-length-2 c = search needs
+
+same-length-3 : tie.Need-same-length-3
+same-length-3 c = search needs
 
 returns : tie.Need-returns
 returns c =
-    let at-enum-told = c .before .before .before .before in
+    let at-count-lines = c .before .before .before .before .before .before in
+    let at-enum-told = at-count-lines .before .before .before .before .before in
     let at-value-part = at-enum-told .before .before in
     let entry = at-value-part .before .before .before .before .before .before .before .before in
     let e = at-value-part .value-part .ensures .bytes
     ∙ scenes.pixel-bytes (entry .args .bytes .now) (entry .args .rows .now) (entry .pre .0) (entry .args .c .p) (entry .pre .1 .0) in
-    rw (at-enum-told .enum-told .given .1, ← e) (c .before .before .count-native .ensures)
-
-same-length-2 : tie.Need-same-length-2
-same-length-2 c =
-    search needs
-
-same-length-3 : tie.Need-same-length-3
-same-length-3 c =
-    search needs
+    rw (at-enum-told .enum-told .given .1, ← e) (at-count-lines .count-lines .ensures)
 
 same-length-4 : tie.Need-same-length-4
-same-length-4 c =
-    search needs
+same-length-4 c = search needs
+
+same-length-5 : tie.Need-same-length-5
+same-length-5 c = search needs
+
+same-length-6 : tie.Need-same-length-6
+same-length-6 c = search needs
 
 returns-2 : tie.Need-returns-2
 returns-2 c =
-    let at-count-moved = c .before .before .before .before .before .before in
-    let at-value = at-count-moved .before .before .before .before in
+    let at-count-masked = c .before .before .before .before .before .before in
+    let at-value = at-count-masked .before .before .before .before in
     let at-masking = at-value .before .before in
     let at-value-part = at-masking .before .before in
     let entry = at-value-part .before .before .before .before .before .before .before .before in
     let e = at-value-part .value-part .ensures .bytes
     ∙ scenes.pixel-bytes (entry .args .bytes .now) (entry .args .rows .now) (entry .pre .0) (entry .args .c .p) (entry .pre .1 .0) in
-    rw (at-masking .masking .given .1, ← e, ← at-value .value .ensures) (at-count-moved .count-moved .ensures)
-
-same-length-5 : tie.Need-same-length-5
-same-length-5 c =
-    search needs
-
-same-length-6 : tie.Need-same-length-6
-same-length-6 c =
-    search needs
+    rw (at-masking .masking .given .1, ← e, ← at-value .value .ensures) (at-count-masked .count-masked .ensures)
 
 same-length-7 : tie.Need-same-length-7
-same-length-7 c =
-    search needs
+same-length-7 c = search needs
+
+same-length-8 : tie.Need-same-length-8
+same-length-8 c = search needs
+
+same-length-9 : tie.Need-same-length-9
+same-length-9 c = search needs
 
 returns-3 : tie.Need-returns-3
 returns-3 c =
-    let at-count-moved2 = c .before .before .before .before .before .before in
-    let at-masking2 = at-count-moved2 .before .before .before .before .before .before in
+    let at-count-masked2 = c .before .before .before .before .before .before in
+    let at-masking2 = at-count-masked2 .before .before .before .before .before .before in
     let at-value-part = at-masking2 .before .before in
     let entry = at-value-part .before .before .before .before .before .before .before .before in
     let e = at-value-part .value-part .ensures .bytes
     ∙ scenes.pixel-bytes (entry .args .bytes .now) (entry .args .rows .now) (entry .pre .0) (entry .args .c .p) (entry .pre .1 .0) in
-    let m = subst (λ (x : Masking). MasksReady (nodesOf (entry .args .bytes .now))
-    (valueAt (nodesOf (entry .args .bytes .now)) (entry .args .c .p)) (entry .args .c .g) x) (at-masking2 .masking2 .given .1)
-    (entry .pre .1 .1 .1 .0) in
+    let m = subst (λ (x : Masking). MasksReady (nodesOf (entry .args .bytes .now)) (valueAt (nodesOf (entry .args .bytes .now))
+    (entry .args .c .p))
+    (entry .args .c .g) x) (at-masking2 .masking2 .given .1) (entry .pre .1 .1 .1 .0) in
     rw (at-masking2 .masking2 .given .1, ← e, ← pair-values (at-masking2 .masking2 .given .0 .0) (m .0))
-    (at-count-moved2 .count-moved2 .ensures)
+    (at-count-masked2 .count-masked2 .ensures)
 
 returns-4 : tie.Need-returns-4
 returns-4 c =
     let entry = c .before .before .before .before .before .before .before .before .before .before in
-    let m = subst (λ (x : Masking). MasksReady (nodesOf (entry .args .bytes .now))
-    (valueAt (nodesOf (entry .args .bytes .now)) (entry .args .c .p)) (entry .args .c .g) x) (c .enum-told2 .given .1)
-    (entry .pre .1 .1 .1 .0) in
+    let m = subst (λ (x : Masking). MasksReady (nodesOf (entry .args .bytes .now)) (valueAt (nodesOf (entry .args .bytes .now))
+    (entry .args .c .p))
+    (entry .args .c .g) x) (c .enum-told2 .given .1) (entry .pre .1 .1 .1 .0) in
     absurd m
 
 pub count-frame-spec : {M : Type 1} → statement M
@@ -179,24 +163,27 @@ count-frame-spec =
     (tie.spec
     value-part-requires
     enum-told
-    count-native-requires
+    slice-aggregate-count-lines
+    count-lines-requires
     enum-known-masking
     value-requires
-    count-moved-requires
+    count-masked-requires
     enum-known-masking-2
-    cast-t30
-    cast-t33
-    slice-aggregate-count-moved
-    count-moved-requires-2
+    cast-t38
+    cast-t41
+    slice-aggregate-count-masked
+    count-masked-requires-2
     enum-told-2
     same-length
-    returns
     same-length-2
     same-length-3
+    returns
     same-length-4
-    returns-2
     same-length-5
     same-length-6
+    returns-2
     same-length-7
+    same-length-8
+    same-length-9
     returns-3
     returns-4)

@@ -1,5 +1,5 @@
 -- The counts so far with the levels of the frames ahead are the counts of all, and there are too few cells for a count to wrap.
-use Prim.Native.Nat.{_+_, _-_, _*_, _≤_}
+use Prim.Native.Nat.{ℕ, _+_, _-_, _*_, _≤_}
 use lib.ListN.{length, drop}
 use Rattle.node.specs.Nodes.{nodesOf}
 use Rattle.element.specs.Contracts.{Along}
@@ -10,7 +10,7 @@ use Rattle.sheet.specs.Sheet.{levelsOf, nativesOf, countsOf}
 use Rattle.sheet.specs.Contracts.{tallied, Room, IsHeld}
 use Rattle.sheet.proofs.Counts.{counts-are, room-start}
 use Rattle.sheet.proofs.Frames as frames
-use Rattle.display.proofs.Scenes.{based, few-frames, cells-few}
+use Rattle.display.proofs.Scenes.{picture-cells, based, few-frames, cells-few}
 use mathlib.Core.Path.{_≡_, refl, sym, ap, _∙_}
 use native.Mathlib.Omega.{arith}
 use Rattle.sheet.proofs.count_frames.Statement.{statement}
@@ -20,8 +20,8 @@ abbrev Inv-loop : tie.InvT-loop
 Inv-loop bytes rows c n a b which keys answers table₀ upper₀ lower₀ line₀ items₀ sofar₀ end frame₀ table upper lower line items sofar
     frame =
     (a ≤ frame) × ((frame ≤ b + 1) × (Along (nodesOf bytes) (drop (frame - 1) (frameItems (nodesOf bytes))) items
-    × ((tallied (levelsOf (nodesOf bytes) frame (b + 1 - frame)) (sofar .counts) ≡ countsOf (levelsOf (nodesOf bytes) a (b + 1 - a)))
-    × ((sofar .natives + nativesOf (nodesOf bytes) frame (b + 1 - frame) ≡ nativesOf (nodesOf bytes) a (b + 1 - a))
+    × ((tallied (levelsOf (nodesOf bytes) frame (b + 1 - frame)) (sofar .counts) ≡ countsOf (levelsOf (nodesOf bytes) a (b - a + 1)))
+    × ((sofar .natives + nativesOf (nodesOf bytes) frame (b + 1 - frame) ≡ nativesOf (nodesOf bytes) a (b - a + 1))
     × (Room (sofar .counts) ((b + 1 - frame) * imageSize (nodesOf bytes)) × (IsHeld (c .g .stored) (c .inverse) (sofar .held) table
     × ((length table ≡ length table₀)
     × ((length upper ≡ length upper₀) × ((length lower ≡ length lower₀) × ((length line ≡ length line₀)))))))))))
@@ -33,37 +33,40 @@ abbrev μ-loop : tie.MeasureT-loop
 nothing-requires : tie.Need-nothing-requires Inv-loop μ-loop
 nothing-requires c κs =
     let entry = c .before .before .before .before .before .before .before .before .before .before in
-    based (entry .args .bytes .now) (entry .args .n) (entry .args .a) (entry .pre .1 .0) (entry .pre .1 .1 .1 .1 .0)
-    (omega (arith, entry .pre .1 .1 .1 .1 .1 .0, entry .pre .1 .1 .1 .1 .1 .1 .0)) (entry .args .c)
-    (entry .pre .1 .1 .0) .shape .stored-most
+    based (entry .args .bytes .now) (entry .args .n) (entry .args .a) (entry .pre .0 .object) (entry .pre .0 .low)
+    (omega (arith, entry .pre .0 .order, entry .pre .0 .high)) (entry .args .c)
+    (entry .pre .0 .scene) .shape .stored-most
 
 add-end : tie.Need-add-end Inv-loop μ-loop
 add-end c =
     let entry = c .before .before .before .before .before .before .before .before .before .before .before in
     record {
-      fits = omega (arith, entry .pre .1 .1 .1 .1 .1 .1 .0, few-frames (entry .args .bytes .now) (entry .args .n) (entry .pre .1 .0));
+      fits = omega (arith, entry .pre .0 .high, few-frames (entry .args .bytes .now) (entry .args .n) (entry .pre .0 .object));
     }
 
 loop-holds : tie.Need-loop-holds Inv-loop μ-loop
 loop-holds c =
-    let entry = c .before .before .before .before .before .before .before .before .before .before .before in (
+    let entry = c .before .before .before .before .before .before .before .before .before .before .before in
+    let z : entry .args .b + 1 - entry .args .a ≡ entry .args .b - entry .args .a + 1 = omega (arith, entry .pre .0 .order) in (
       omega arith,
       (
-        omega (arith, entry .pre .1 .1 .1 .1 .1 .0),
+        omega (arith, entry .pre .0 .order),
         (
-          entry .pre .1 .1 .1 .0,
+          entry .pre .0 .items,
           (
             ap (tallied (levelsOf (nodesOf (entry .args .bytes .now)) (entry .args .a) (entry .args .b + 1 - entry .args .a)))
                 (c .nothing .ensures .counts-are)
-                ∙ counts-are (levelsOf (nodesOf (entry .args .bytes .now)) (entry .args .a) (entry .args .b + 1 - entry .args .a)),
+                ∙ (counts-are (levelsOf (nodesOf (entry .args .bytes .now)) (entry .args .a) (entry .args .b + 1 - entry .args .a))
+                ∙ ap (λ (k : ℕ). countsOf (levelsOf (nodesOf (entry .args .bytes .now)) (entry .args .a) k)) z),
             (
-              omega (arith, c .nothing .ensures .natives-are),
+              omega (arith, c .nothing .ensures .natives-are, ap (nativesOf (nodesOf (entry .args .bytes .now)) (entry .args .a)) z),
               (
-                room-start _ _ (c .nothing .ensures .counts-are) (cells-few (entry .args .bytes .now) (entry .args .n) (entry .pre .1 .0)
-                    (omega (arith, entry .pre .1 .1 .1 .1 .0, entry .pre .1 .1 .1 .1 .1 .0, entry .pre .1 .1 .1 .1 .1 .1 .0))
+                room-start _ _ (c .nothing .ensures .counts-are) (cells-few (entry .args .bytes .now) (entry .args .n)
+                    (entry .pre .0 .object)
+                    (omega (arith, entry .pre .0 .low, entry .pre .0 .order, entry .pre .0 .high))
                     (entry .args .c)
-                    (entry .pre .1 .1 .0) (entry .args .b + 1 - entry .args .a)
-                    (omega (arith, entry .pre .1 .1 .1 .1 .1 .1 .0, entry .pre .1 .1 .1 .1 .0))),
+                    (entry .pre .0 .scene) (entry .args .b + 1 - entry .args .a)
+                    (omega (arith, entry .pre .0 .high, entry .pre .0 .low))),
                 (c .nothing .ensures .held-is _, (refl, (refl, (refl, refl)))),
               ),
             ),
@@ -75,21 +78,21 @@ loop-holds c =
 item-here-requires : tie.Need-item-here-requires Inv-loop μ-loop
 item-here-requires c κs =
     let entry = c .before .before .before .before .before .before .before .before .before .before .before .before .before in
-    (entry .pre .0, (c .before .loop .inv .1 .1 .0, omega (arith, c .before .loop .inv .0, entry .pre .1 .1 .1 .1 .0)))
+    (entry .pre .0 .table, (c .before .loop .inv .1 .1 .0, omega (arith, c .before .loop .inv .0, entry .pre .0 .low)))
 
 plan-at-requires : tie.Need-plan-at-requires Inv-loop μ-loop
 plan-at-requires c κs =
     let entry = c .before .before .before .before .before .before .before .before .before .before .before .before .before .before in (
-      entry .pre .0,
+      entry .pre .0 .table,
       (
-        entry .pre .1 .0,
+        entry .pre .0 .object,
         (
-          entry .pre .1 .1 .0,
+          entry .pre .0 .scene,
           (
             c .item-here .ensures,
             (
-              omega (arith, c .before .before .loop .inv .0, entry .pre .1 .1 .1 .1 .0),
-              (omega (arith, c .before .loop-test .taken, entry .pre .1 .1 .1 .1 .1 .1 .0), entry .pre .1 .1 .1 .1 .1 .1 .1 .1),
+              omega (arith, c .before .before .loop .inv .0, entry .pre .0 .low),
+              (omega (arith, c .before .loop-test .taken, entry .pre .0 .high), entry .pre .1 .1),
             ),
           ),
         ),
@@ -102,43 +105,35 @@ count-picture-requires c κs =
     let at-loop-test = at-plan-at .before .before in
     let at-loop = at-loop-test .before in
     let entry = at-loop .before .before .before .before .before .before .before .before .before .before .before .before in (
-      entry .pre .0,
+      record {
+        table = entry .pre .0 .table;
+        object = entry .pre .0 .object;
+        scene = entry .pre .0 .scene;
+        plan = at-plan-at .plan-at .ensures;
+        low = omega (arith, at-loop .loop .inv .0, entry .pre .0 .low);
+        high = omega (arith, at-loop-test .loop-test .taken, entry .pre .0 .high);
+      },
       (
-        entry .pre .1 .0,
+        record {
+          shades = at-loop .loop .inv .1 .1 .1 .1 .1 .1 .1 .0 ∙ entry .pre .1 .0 .shades;
+          above = omega (arith, at-loop .loop .inv .1 .1 .1 .1 .1 .1 .1 .1 .0, entry .pre .1 .0 .above);
+          below = omega (arith, at-loop .loop .inv .1 .1 .1 .1 .1 .1 .1 .1 .1 .0, entry .pre .1 .0 .below);
+          wide = omega (arith, at-loop .loop .inv .1 .1 .1 .1 .1 .1 .1 .1 .1 .1, entry .pre .1 .0 .wide);
+        },
         (
-          entry .pre .1 .1 .0,
+          at-loop .loop .inv .1 .1 .1 .1 .1 .1 .0,
           (
-            at-plan-at .plan-at .ensures,
-            (
-              omega (arith, at-loop .loop .inv .0, entry .pre .1 .1 .1 .1 .0),
-              (
-                omega (arith, at-loop-test .loop-test .taken, entry .pre .1 .1 .1 .1 .1 .1 .0),
-                (
-                  record {
-                    shades = at-loop .loop .inv .1 .1 .1 .1 .1 .1 .1 .0 ∙ entry .pre .1 .1 .1 .1 .1 .1 .1 .0 .shades;
-                    above = omega (arith, at-loop .loop .inv .1 .1 .1 .1 .1 .1 .1 .1 .0, entry .pre .1 .1 .1 .1 .1 .1 .1 .0 .above);
-                    below = omega (arith, at-loop .loop .inv .1 .1 .1 .1 .1 .1 .1 .1 .1 .0, entry .pre .1 .1 .1 .1 .1 .1 .1 .0 .below);
-                    wide = omega (arith, at-loop .loop .inv .1 .1 .1 .1 .1 .1 .1 .1 .1 .1, entry .pre .1 .1 .1 .1 .1 .1 .1 .0 .wide);
-                  },
-                  (
-                    at-loop .loop .inv .1 .1 .1 .1 .1 .1 .0,
-                    (
-                      omega (
-                        arith,
-                        at-loop .loop .inv .1 .1 .1 .1 .0,
-                        frames.natives-few (nodesOf (entry .args .bytes .now)) (entry .args .a) (entry .args .b + 1 - entry .args .a),
-                        few-frames (entry .args .bytes .now) (entry .args .n) (entry .pre .1 .0),
-                        entry .pre .1 .1 .1 .1 .1 .1 .0,
-                        entry .pre .1 .1 .1 .1 .0,
-                      ),
-                      frames.room-one (at-loop .loop .frame) (entry .args .b + 1)
-                          (imageSize (nodesOf (entry .args .bytes .now))) (at-loop .loop .sofar .counts) (at-loop-test .loop-test .taken)
-                          (at-loop .loop .inv .1 .1 .1 .1 .1 .0),
-                    ),
-                  ),
-                ),
-              ),
+            omega (
+              arith,
+              at-loop .loop .inv .1 .1 .1 .1 .0,
+              frames.natives-few (nodesOf (entry .args .bytes .now)) (entry .args .a) (entry .args .b - entry .args .a + 1),
+              few-frames (entry .args .bytes .now) (entry .args .n) (entry .pre .0 .object),
+              entry .pre .0 .high,
+              entry .pre .0 .low,
             ),
+            frames.room-one (at-loop .loop .frame) (entry .args .b + 1)
+                (imageSize (nodesOf (entry .args .bytes .now))) (at-loop .loop .sofar .counts) (at-loop-test .loop-test .taken)
+                (at-loop .loop .inv .1 .1 .1 .1 .1 .0),
           ),
         ),
       ),
@@ -146,26 +141,29 @@ count-picture-requires c κs =
 
 advance-requires : tie.Need-advance-requires Inv-loop μ-loop
 advance-requires c κs =
-    let at-loop = c .before .before .before .before .before .before .before .before .before .before .before .before .before .before .before .before in
+    let at-count-picture = c .before .before .before .before .before .before .before .before in
+    let at-loop = at-count-picture .before .before .before .before .before .before .before .before in
     let entry = at-loop .before .before .before .before .before .before .before .before .before .before .before .before in
-    (entry .pre .0, at-loop .loop .inv .1 .1 .0 .inner)
+    (entry .pre .0 .table, at-loop .loop .inv .1 .1 .0 .inner)
 
 add-frame : tie.Need-add-frame Inv-loop μ-loop
 add-frame c =
-    let at-loop-test = c .before .before .before .before .before .before .before .before .before .before .before .before .before .before .before .before in
+    let at-count-picture = c .before .before .before .before .before .before .before .before .before in
+    let at-loop-test = at-count-picture .before .before .before .before .before .before .before in
     let entry = at-loop-test .before .before .before .before .before .before .before .before .before .before .before .before .before in
     record {
       fits = omega (
         arith,
         at-loop-test .loop-test .taken,
-        entry .pre .1 .1 .1 .1 .1 .1 .0,
-        few-frames (entry .args .bytes .now) (entry .args .n) (entry .pre .1 .0),
+        entry .pre .0 .high,
+        few-frames (entry .args .bytes .now) (entry .args .n) (entry .pre .0 .object),
       );
     }
 
 loop-less : tie.Need-loop-less Inv-loop μ-loop
 loop-less c =
-    let at-loop-test = c .before .before .before .before .before .before .before .before .before .before .before .before .before .before .before .before in
+    let at-count-picture = c .before .before .before .before .before .before .before .before .before in
+    let at-loop-test = at-count-picture .before .before .before .before .before .before .before in
     omega (arith, at-loop-test .loop-test .taken)
 
 loop-again : tie.Need-loop-again Inv-loop μ-loop
@@ -177,15 +175,15 @@ loop-again c =
     let at-loop-test = at-count-picture .before .before .before .before .before .before .before in
     let at-loop = at-loop-test .before in
     let entry = at-loop .before .before .before .before .before .before .before .before .before .before .before .before in
-    let m = frames.picture-cells (entry .args .bytes .now) (entry .args .n) (at-loop .loop .frame) (entry .pre .1 .0)
-    (omega (arith, at-loop .loop .inv .0, entry .pre .1 .1 .1 .1 .0))
-    (omega (arith, at-loop-test .loop-test .taken, entry .pre .1 .1 .1 .1 .1 .1 .0)) in (
+    let m = picture-cells (entry .args .bytes .now) (entry .args .n) (at-loop .loop .frame) (entry .pre .0 .object)
+    (omega (arith, at-loop .loop .inv .0, entry .pre .0 .low))
+    (omega (arith, at-loop-test .loop-test .taken, entry .pre .0 .high)) in (
       omega (arith, at-loop .loop .inv .0),
       (
         omega (arith, at-loop-test .loop-test .taken),
         (
           along-more (nodesOf (entry .args .bytes .now)) 1 (at-loop .loop .frame)
-              (omega (arith, at-loop .loop .inv .0, entry .pre .1 .1 .1 .1 .0)) (at-loop .loop .inv .1 .1 .0) (c .advance .ensures),
+              (omega (arith, at-loop .loop .inv .0, entry .pre .0 .low)) (at-loop .loop .inv .1 .1 .0) (c .advance .ensures),
           (
             frames.frames-more (nodesOf (entry .args .bytes .now)) (at-loop .loop .frame) (entry .args .b + 1)
                 (at-loop .loop .sofar .counts) _

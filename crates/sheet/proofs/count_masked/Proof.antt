@@ -1,67 +1,61 @@
--- Both ways of drawing promise the same cells; the quicker one is taken where its conditions hold.
+-- The way is ready for the first line, and draws the cells that the moves lead to.
+use mathlib.Core.Path.{ap, _∙_}
+use mathlib.Core.List.{List}
+use native.Mathlib.Omega.{arith}
+use Prim.Native.Nat.{ℕ}
+use Rattle.pixel.specs.Pixel.{samplesOf}
+use Rattle.lines.specs.Contracts.{shadesOf}
+use Rattle.lines.proofs.Lists.{upTo-same}
+use Rattle.sheet.specs.Contracts.{tallied}
 use borrow.Author.Needs.{needs}
 use Rattle.sheet.proofs.count_masked.Statement.{statement}
 use Rattle.sheet.proofs.count_masked.Tie as tie
 
-count-whole-requires : tie.Need-count-whole-requires
-count-whole-requires c κs =
-    let at-if2 = c .before .before .before in
-    let at-if1 = at-if2 .before in
-    let entry = at-if1 .before .before .before .before .before .before .before in (
-      entry .pre .0,
-      (
-        entry .pre .1 .0,
-        (
-          entry .pre .1 .1 .0,
-          (at-if1 .if1 .taken, (at-if2 .if2 .taken, (c .before .before .if3 .taken, (entry .pre .1 .1 .1 .0, entry .pre .1 .1 .1 .1 .1)))),
-        ),
-      ),
+masked-way-requires : tie.Need-masked-way-requires
+masked-way-requires c κs =
+    let entry = c .before .before .before .before .before .before .before in
+    (entry .pre .0 .shape, (entry .pre .1 .0, (entry .pre .1 .1 .0, entry .pre .0 .below)))
+
+count-lines-requires : tie.Need-count-lines-requires
+count-lines-requires c κs =
+    let at-lower = c .before .before .before .before in
+    let at-masked-way = at-lower .before in
+    let entry = at-masked-way .before .before .before .before .before .before .before .before in (
+      record {
+        shape = entry .pre .0 .shape;
+        inside = entry .pre .0 .inside;
+        shaded = entry .pre .0 .shaded;
+        above = entry .pre .0 .above;
+        below = omega (arith, entry .pre .0 .below, at-lower .lower .given);
+        wide = entry .pre .0 .wide;
+      },
+      (at-masked-way .masked-way .ensures .ready _ (entry .pre .0 .above), entry .pre .1 .1 .1),
     )
 
 same-length : tie.Need-same-length
-same-length c =
-    search needs
+same-length c = search needs
 
 same-length-2 : tie.Need-same-length-2
-same-length-2 c =
-    search needs
+same-length-2 c = search needs
+
+same-length-3 : tie.Need-same-length-3
+same-length-3 c = search needs
 
 returns : tie.Need-returns
 returns c =
-    let at-count-whole = c .before .before .before .before in
-    at-count-whole .count-whole .ensures
-
-count-blended-requires : tie.Need-count-blended-requires
-count-blended-requires c κs =
-    search needs
-
-same-length-3 : tie.Need-same-length-3
-same-length-3 c =
-    search needs
-
-same-length-4 : tie.Need-same-length-4
-same-length-4 c =
-    search needs
-
-same-length-5 : tie.Need-same-length-5
-same-length-5 c =
-    search needs
-
-returns-2 : tie.Need-returns-2
-returns-2 c =
-    let at-count-blended = c .before .before .before .before .before .before in
-    at-count-blended .count-blended .ensures
+    let at-count-lines = c .before .before .before .before .before .before in
+    let at-masked-way = at-count-lines .before .before .before .before .before .before in
+    let entry = at-masked-way .before .before .before .before .before .before .before .before in
+    at-count-lines .count-lines .ensures ∙ ap (λ (l : List ℕ). tallied l (entry .args .counts)) (upTo-same _ _ (samplesOf (entry .args .g))
+    (λ i l. at-masked-way .masked-way .ensures .shades (shadesOf (entry .args .shades) (entry .args .g .stored)) (entry .args .frame) i))
 
 pub count-masked-spec : {M : Type 1} → statement M
 count-masked-spec =
     tie.close
     (tie.spec
-    count-whole-requires
+    masked-way-requires
+    count-lines-requires
     same-length
     same-length-2
-    returns
-    count-blended-requires
     same-length-3
-    same-length-4
-    same-length-5
-    returns-2)
+    returns)

@@ -5,7 +5,7 @@ use mathlib.Core.List.{List}
 use Rattle.pixel.proofs.Laws.{cells-fit}
 use Rattle.display.specs.Contracts.{isMasked}
 use Rattle.sheet.specs.Contracts.{tallied}
-use Rattle.display.proofs.Scenes as scenes
+use Rattle.display.proofs.Planned as planned
 use Rattle.sheet.proofs.Scenes as counted
 use Rattle.sheet.proofs.Frames.{one-most}
 use mathlib.Core.Path.{sym, ap, _∙_}
@@ -17,8 +17,7 @@ use Rattle.sheet.proofs.count_picture.Tie as tie
 mul-cells : tie.Need-mul-cells
 mul-cells c =
     let entry = c .before .before .before .before .before .before .before .before in
-    let b = scenes.based (entry .args .bytes .now) (entry .args .n) (entry .args .frame) (entry .pre .1 .0) (entry .pre .1 .1 .1 .1 .0)
-    (entry .pre .1 .1 .1 .1 .1 .0) (entry .args .c) (entry .pre .1 .1 .0) in
+    let b = planned.based (entry .pre .0) in
     omega (
       arith,
       cells-fit 0 (entry .args .c .g .rows) (entry .args .c .g .columns) 0 (omega arith) (b .shape .rows-most)
@@ -28,22 +27,21 @@ mul-cells c =
 shades-for-requires : tie.Need-shades-for-requires
 shades-for-requires c κs =
     let entry = c .before .before .before .before .before .before .before .before .before .before .before .before in
-    let b = scenes.based (entry .args .bytes .now) (entry .args .n) (entry .args .frame) (entry .pre .1 .0) (entry .pre .1 .1 .1 .1 .0)
-    (entry .pre .1 .1 .1 .1 .1 .0) (entry .args .c) (entry .pre .1 .1 .0) in (
-      entry .pre .1 .1 .1 .0 .drawable,
+    let b = planned.based (entry .pre .0) in (
+      entry .pre .0 .plan .drawable,
       (
         b .shape .stored-some,
         (
           b .shape .stored-most,
           (
-            entry .pre .1 .1 .1 .1 .1 .1 .0 .shades,
+            entry .pre .1 .0 .shades,
             (
               omega (
                 arith,
                 cells-fit 0 (entry .args .c .g .rows) (entry .args .c .g .columns) 0 (omega arith) (b .shape .rows-most)
                     (b .shape .columns-most) (omega arith),
               ),
-              entry .pre .1 .1 .1 .1 .1 .1 .1 .0,
+              entry .pre .1 .1 .0,
             ),
           ),
         ),
@@ -54,30 +52,24 @@ count-frame-requires : tie.Need-count-frame-requires
 count-frame-requires c κs =
     let at-shades-for = c .before .before .before .before .before .before .before in
     let entry = at-shades-for .before .before .before .before .before .before .before .before .before .before .before .before .before in
-    let b = scenes.based (entry .args .bytes .now) (entry .args .n) (entry .args .frame) (entry .pre .1 .0) (entry .pre .1 .1 .1 .1 .0)
-    (entry .pre .1 .1 .1 .1 .1 .0) (entry .args .c) (entry .pre .1 .1 .0) in (
-      entry .pre .0,
+    let b = planned.based (entry .pre .0) in (
+      entry .pre .0 .table,
       (
-        scenes.is-pixels (entry .args .bytes .now) (entry .args .n) (entry .args .frame) (entry .pre .1 .0) (entry .pre .1 .1 .1 .1 .0)
-            (entry .pre .1 .1 .1 .1 .1 .0) (entry .args .c) (entry .pre .1 .1 .0),
+        planned.is-pixels (entry .pre .0),
         (
-          record { shape = b .shape; inside = b .inside; wide = entry .pre .1 .1 .1 .1 .1 .1 .0 .wide },
+          record {
+            shape = b .shape;
+            inside = b .inside;
+            shaded = at-shades-for .shades-for .ensures .1 .shaded;
+            above = entry .pre .1 .0 .above;
+            below = entry .pre .1 .0 .below;
+            wide = entry .pre .1 .0 .wide;
+          },
           (
-            scenes.ready (entry .args .bytes .now) (entry .args .n) (entry .args .frame) (entry .pre .1 .0) (entry .pre .1 .1 .1 .1 .0)
-                (entry .pre .1 .1 .1 .1 .1 .0) (entry .args .c) (entry .pre .1 .1 .0) (entry .args .own) (entry .pre .1 .1 .1 .0),
-            (
-              at-shades-for .shades-for .ensures .1 .shaded,
-              (
-                entry .pre .1 .1 .1 .1 .1 .1 .0 .above,
-                (
-                  entry .pre .1 .1 .1 .1 .1 .1 .0 .below,
-                  counted.room-for (entry .args .bytes .now) (entry .args .n) (entry .args .frame) (entry .pre .1 .0)
-                      (entry .pre .1 .1 .1 .1 .0)
-                      (entry .pre .1 .1 .1 .1 .1 .0) (entry .args .c) (entry .pre .1 .1 .0) (entry .args .sofar .counts)
-                      (entry .pre .1 .1 .1 .1 .1 .1 .1 .1 .1),
-                ),
-              ),
-            ),
+            planned.masks-ready (entry .pre .0),
+            counted.room-for (entry .args .bytes .now) (entry .args .n) (entry .args .frame) (entry .pre .0 .object) (entry .pre .0 .low)
+                (entry .pre .0 .high) (entry .args .c) (entry .pre .0 .scene) (entry .args .sofar .counts)
+                (entry .pre .1 .1 .1 .1),
           ),
         ),
       ),
@@ -89,8 +81,10 @@ native-number-requires c κs =
 
 add-natives : tie.Need-add-natives
 add-natives c =
-    let entry = c .before .before .before .before .before .before .before .before .before .before .before .before .before .before .before .before .before .before .before .before .before .before .before .before .before .before .before .before in
-    omega (arith, c .native-number .ensures, one-most (isMasked (entry .args .own .masking)), entry .pre .1 .1 .1 .1 .1 .1 .1 .1 .0)
+    let at-count-frame = c .before .before .before .before .before .before .before in
+    let at-shades-for = at-count-frame .before .before .before .before .before .before .before .before in
+    let entry = at-shades-for .before .before .before .before .before .before .before .before .before .before .before .before .before in
+    omega (arith, c .native-number .ensures, one-most (isMasked (entry .args .own .masking)), entry .pre .1 .1 .1 .0)
 
 same-length : tie.Need-same-length
 same-length c =
@@ -113,9 +107,7 @@ returns c =
     let at-count-frame = c .before .before .before .before .before .before .before in
     let at-shades-for = at-count-frame .before .before .before .before .before .before .before .before in
     let entry = at-shades-for .before .before .before .before .before .before .before .before .before .before .before .before .before in
-    let d = counted.picture (entry .args .bytes .now) (entry .args .n) (entry .args .frame) (entry .pre .1 .0) (entry .pre .1 .1 .1 .1 .0)
-    (entry .pre .1 .1 .1 .1 .1 .0) (entry .args .c) (entry .pre .1 .1 .0) (entry .args .own) (entry .pre .1 .1 .1 .0)
-    (at-shades-for .shades-for .result .shades) (at-shades-for .shades-for .ensures .0)
+    let d = planned.picture (entry .pre .0) (at-shades-for .shades-for .result .shades) (at-shades-for .shades-for .ensures .0)
     (at-shades-for .shades-for .ensures .1 .inverse-is) in (
       at-count-frame .count-frame .ensures ∙ ap (λ (l : List ℕ). tallied l (entry .args .sofar .counts)) (sym (d .cells)),
       (

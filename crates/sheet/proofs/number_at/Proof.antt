@@ -1,7 +1,10 @@
--- The 256 counts come first, and the four other numbers follow in their order.
+-- The 256 counts come first, the four other numbers follow in their order, and beyond them a list has 0.
+use mathlib.Core.Path.{_≡_}
 use mathlib.Core.List.{[], _∷_}
+use lib.ListN.{length}
 use Rattle.sheet.proofs.Answers as answers
 use native.Mathlib.Omega.{arith}
+use borrow.Author.Needs.{needs}
 use Rattle.sheet.proofs.number_at.Statement.{statement}
 use Rattle.sheet.proofs.number_at.Tie as tie
 
@@ -15,38 +18,60 @@ array-read-result c =
 
 returns : tie.Need-returns
 returns c =
-    answers.in-front (c .before .before .args .t .counts) (c .before .before .args .t .natives ∷ c .before .before .args .t .lowest
-    ∷ c .before .before .args .t .highest ∷ c .before .before .args .t .sum ∷ []) (c .before .before .args .k)
-    (c .before .before .pre .0) (c .if1 .taken)
+    let entry = c .before .before in
+    let e : length (entry .args .t .counts) ≡ 256 = search needs in
+    answers.in-front (entry .args .t .counts)
+    (entry .args .t .natives ∷ entry .args .t .lowest ∷ entry .args .t .highest ∷ entry .args .t .sum ∷ [])
+    (entry .args .k) e (c .if1 .taken)
 
 returns-2 : tie.Need-returns-2
 returns-2 c =
     let entry = c .before .before .before in
+    let e : length (entry .args .t .counts) ≡ 256 = search needs in
     answers.behind (entry .args .t .counts)
     (entry .args .t .natives ∷ entry .args .t .lowest ∷ entry .args .t .highest ∷ entry .args .t .sum ∷ []) 0 (entry .args .k)
-    (entry .pre .0) (omega (arith, c .if2 .taken))
+    e (omega (arith, c .if2 .taken))
 
 returns-3 : tie.Need-returns-3
 returns-3 c =
     let entry = c .before .before .before .before in
+    let e : length (entry .args .t .counts) ≡ 256 = search needs in
     answers.behind (entry .args .t .counts)
     (entry .args .t .natives ∷ entry .args .t .lowest ∷ entry .args .t .highest ∷ entry .args .t .sum ∷ []) 1 (entry .args .k)
-    (entry .pre .0) (omega (arith, c .if3 .taken))
+    e (omega (arith, c .if3 .taken))
 
 returns-4 : tie.Need-returns-4
 returns-4 c =
     let entry = c .before .before .before .before .before in
+    let e : length (entry .args .t .counts) ≡ 256 = search needs in
     answers.behind (entry .args .t .counts)
     (entry .args .t .natives ∷ entry .args .t .lowest ∷ entry .args .t .highest ∷ entry .args .t .sum ∷ []) 2 (entry .args .k)
-    (entry .pre .0) (omega (arith, c .if4 .taken))
+    e (omega (arith, c .if4 .taken))
 
 returns-5 : tie.Need-returns-5
 returns-5 c =
-    let at-if1 = c .before .before .before in
-    let entry = at-if1 .before .before in
+    let entry = c .before .before .before .before .before .before in
+    let e : length (entry .args .t .counts) ≡ 256 = search needs in
     answers.behind (entry .args .t .counts)
     (entry .args .t .natives ∷ entry .args .t .lowest ∷ entry .args .t .highest ∷ entry .args .t .sum ∷ []) 3 (entry .args .k)
-    (entry .pre .0) (omega (arith, entry .pre .1, at-if1 .if1 .left, c .before .before .if2 .left, c .before .if3 .left, c .if4 .left))
+    e (omega (arith, c .if5 .taken))
+
+returns-6 : tie.Need-returns-6
+returns-6 c =
+    let at-if1 = c .before .before .before .before in
+    let entry = at-if1 .before .before in
+    let e : length (entry .args .t .counts) ≡ 256 = search needs in
+    answers.beyond (entry .args .t .counts)
+    (entry .args .t .natives ∷ entry .args .t .lowest ∷ entry .args .t .highest ∷ entry .args .t .sum ∷ [])
+    (entry .args .k) e
+    (omega (
+      arith,
+      at-if1 .if1 .left,
+      c .before .before .before .if2 .left,
+      c .before .before .if3 .left,
+      c .before .if4 .left,
+      c .if5 .left,
+    ))
 
 pub number-at-spec : {M : Type 1} → statement M
 number-at-spec =
@@ -58,4 +83,5 @@ number-at-spec =
     returns-2
     returns-3
     returns-4
-    returns-5)
+    returns-5
+    returns-6)

@@ -1,6 +1,8 @@
 -- The counts are those of frames a to b, and the other numbers follow from the counts; no count is large enough for the sum to wrap.
 use Prim.Native.Nat.{ℕ}
 use lib.ListN.{length-replicate}
+use Rattle.window.specs.Contracts.{shadePlaces}
+use Rattle.pixel.specs.Contracts.{longestRow}
 use Rattle.sheet.proofs.Sampling as sampling
 use native.Mathlib.Omega.{arith}
 use borrow.Author.Needs.{needs}
@@ -37,31 +39,21 @@ count-all-requires c κs =
     let at-items-from = c .before .before .before .before in
     let at-scene-of = at-items-from .before in
     let entry = at-scene-of .before .before .before in (
-      entry .pre .0,
-      (
-        entry .pre .1 .0,
-        (
-          at-scene-of .scene-of .ensures,
-          (
-            at-items-from .items-from .ensures,
-            (
-              entry .pre .1 .1 .0,
-              (
-                entry .pre .1 .1 .1 .0,
-                (
-                  entry .pre .1 .1 .1 .1,
-                  record {
-                    shades = length-replicate {A = ℕ} 131072 0;
-                    above = omega (arith, length-replicate {A = ℕ} 65664 0);
-                    below = omega (arith, length-replicate {A = ℕ} 65664 0);
-                    wide = omega (arith, length-replicate {A = ℕ} 65535 0);
-                  },
-                ),
-              ),
-            ),
-          ),
-        ),
-      ),
+      record {
+        table = entry .pre .0;
+        object = entry .pre .1 .0;
+        scene = at-scene-of .scene-of .ensures;
+        items = at-items-from .items-from .ensures;
+        low = entry .pre .1 .1 .0;
+        order = entry .pre .1 .1 .1 .0;
+        high = entry .pre .1 .1 .1 .1;
+      },
+      record {
+        shades = length-replicate {A = ℕ} shadePlaces 0;
+        above = omega (arith, length-replicate {A = ℕ} longestRow 0);
+        below = omega (arith, length-replicate {A = ℕ} longestRow 0);
+        wide = omega (arith, length-replicate {A = ℕ} 65535 0);
+      },
     )
 
 first-drawn-requires : tie.Need-first-drawn-requires

@@ -10,12 +10,12 @@ use Rattle.sheet.proofs.tally.Statement.{statement}
 use Rattle.sheet.proofs.tally.Tie as tie
 
 abbrev Inv-loop : tie.InvT-loop
-Inv-loop line now₀ i₀ i-end now i =
+Inv-loop line sofar₀ i₀ i-end sofar i =
     (i ≤ i-end) × ((i-end ≡ length line)
-    × ((tallied (drop i line) now ≡ tallied line now₀) × ((y : ℕ) → getD now y 0 + (length line - i) < 2 ^ 64)))
+    × ((tallied (drop i line) sofar ≡ tallied line sofar₀) × ((y : ℕ) → getD sofar y 0 + (length line - i) < 2 ^ 64)))
 
 abbrev μ-loop : tie.MeasureT-loop
-μ-loop line now₀ i₀ i-end now i =
+μ-loop line sofar₀ i₀ i-end sofar i =
     i-end - i
 
 loop-holds : tie.Need-loop-holds Inv-loop μ-loop
@@ -30,21 +30,21 @@ wide-requires : tie.Need-wide-requires Inv-loop μ-loop
 wide-requires c κs =
     search needs
 
-mul-now : tie.Need-mul-now Inv-loop μ-loop
-mul-now c =
+mul-sofar : tie.Need-mul-sofar Inv-loop μ-loop
+mul-sofar c =
     omega (arith, c .wide .ensures .1)
 
-array-read-now : tie.Need-array-read-now Inv-loop μ-loop
-array-read-now c =
+array-read-sofar : tie.Need-array-read-sofar Inv-loop μ-loop
+array-read-sofar c =
     omega (arith, c .wide .ensures .1)
 
-add-now : tie.Need-add-now Inv-loop μ-loop
-add-now c =
+add-sofar : tie.Need-add-sofar Inv-loop μ-loop
+add-sofar c =
     let at-loop = c .before .before .before in
     record { fits = omega (arith, at-loop .loop .inv .1 .1 .1 (c .wide .result)) }
 
-array-write-now : tie.Need-array-write-now Inv-loop μ-loop
-array-write-now c =
+array-write-sofar : tie.Need-array-write-sofar Inv-loop μ-loop
+array-write-sofar c =
     omega (arith, c .wide .ensures .1)
 
 add-i : tie.Need-add-i Inv-loop μ-loop
@@ -65,8 +65,8 @@ loop-again c =
         refl,
         (
           rw (c .wide .ensures .0)
-              (sym (tallied-next (entry .args .line .now) (at-loop .loop .now) (at-loop .loop .i) h) ∙ at-loop .loop .inv .1 .1 .0),
-          room-next (at-loop .loop .now) (c .wide .result) (length (entry .args .line .now)) (at-loop .loop .i) h
+              (sym (tallied-next (entry .args .line .now) (at-loop .loop .sofar) (at-loop .loop .i) h) ∙ at-loop .loop .inv .1 .1 .0),
+          room-next (at-loop .loop .sofar) (c .wide .result) (length (entry .args .line .now)) (at-loop .loop .i) h
               (at-loop .loop .inv .1 .1 .1),
         ),
       ),
@@ -75,7 +75,7 @@ loop-again c =
 returns : tie.Need-returns Inv-loop μ-loop
 returns c =
     let entry = c .before .before .before in
-    sym (tallied-all (entry .args .line .now) (c .before .loop .now) (c .before .loop .i) (omega arith)) ∙ c .before .loop .inv .1 .1 .0
+    sym (tallied-all (entry .args .line .now) (c .before .loop .sofar) (c .before .loop .i) (omega arith)) ∙ c .before .loop .inv .1 .1 .0
 
 pub tally-spec : {M : Type 1} → statement M
 tally-spec =
@@ -86,10 +86,10 @@ tally-spec =
     loop-holds
     shared-slice-read-wide
     wide-requires
-    mul-now
-    array-read-now
-    add-now
-    array-write-now
+    mul-sofar
+    array-read-sofar
+    add-sofar
+    array-write-sofar
     add-i
     loop-less
     loop-again

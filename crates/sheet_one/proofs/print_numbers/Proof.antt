@@ -1,17 +1,18 @@
--- Each number that is asked for is one of the 260 of a sheet.
+-- The loop ends after the numbers of a sheet, since it comes nearer to the last with each.
 use Prim.Native.Nat.{_-_, _≤_}
 use native.Mathlib.Omega.{arith}
 use borrow.Author.Needs.{needs}
+use Rattle.sheet.specs.Sheet.{sheetSize}
 use Rattle.sheet_one.proofs.print_numbers.Statement.{statement}
 use Rattle.sheet_one.proofs.print_numbers.Tie as tie
 
 abbrev Inv-loop : tie.InvT-loop
 Inv-loop t k₀ k =
-    k ≤ 260
+    k ≤ sheetSize
 
 abbrev μ-loop : tie.MeasureT-loop
 μ-loop t k₀ k =
-    260 - k
+    sheetSize - k
 
 loop-holds : tie.Need-loop-holds Inv-loop μ-loop
 loop-holds c =
@@ -19,7 +20,7 @@ loop-holds c =
 
 number-at-requires : tie.Need-number-at-requires Inv-loop μ-loop
 number-at-requires c κs =
-    (c .before .before .pre, c .loop-test .taken)
+    search needs
 
 print-line-requires : tie.Need-print-line-requires Inv-loop μ-loop
 print-line-requires c κs =

@@ -11,8 +11,8 @@ enum-told c = search needs
 enum-known-item : tie.Need-enum-known-item
 enum-known-item c = search needs
 
-find-item-requires : tie.Need-find-item-requires
-find-item-requires c κs =
+find-in-item-requires : tie.Need-find-in-item-requires
+find-in-item-requires c κs =
     let entry = c .before .before .before .before .before in
     (entry .pre .0, node-laws.within _ (c .before .item .given .1) (entry .pre .1 .1))
 
@@ -34,12 +34,12 @@ returns c =
 returns-2 : tie.Need-returns-2
 unfolding groupFor
 returns-2 c =
-    let at-find-item = c .before .before .before in
-    let at-item = at-find-item .before .before in
+    let at-find-in-item = c .before .before .before in
+    let at-item = at-find-in-item .before .before in
     let entry = at-item .before .before .before .before in (
       rw (
         node-laws.had (at-item .item .given .1) (entry .pre .1 .0),
-        node-laws.had-none (c .before .enum-told2 .given .1) (at-find-item .find-item .ensures .0),
+        node-laws.had-none (c .before .enum-told2 .given .1) (at-find-in-item .find-in-item .ensures .0),
       ) (c .shared-group .ensures .0),
       c .shared-group .ensures .1,
     )
@@ -47,16 +47,16 @@ returns-2 c =
 returns-3 : tie.Need-returns-3
 unfolding groupFor
 returns-3 c =
-    let at-find-item = c .before .before .before in
-    let at-item = at-find-item .before .before in
+    let at-find-in-item = c .before .before .before in
+    let at-item = at-find-in-item .before .before in
     let entry = at-item .before .before .before .before in (
       rw (
         node-laws.had (at-item .item .given .1) (entry .pre .1 .0),
-        node-laws.had (c .before .g .given .1) (at-find-item .find-item .ensures .0),
+        node-laws.had (c .before .g .given .1) (at-find-in-item .find-in-item .ensures .0),
       ),
-      node-laws.within _ (c .before .g .given .1) (at-find-item .find-item .ensures .1),
+      node-laws.within _ (c .before .g .given .1) (at-find-in-item .find-in-item .ensures .1),
     )
 
 pub group-for-spec : {M : Type 1} → statement M
 group-for-spec = tie.close
-    (tie.spec enum-told enum-known-item find-item-requires enum-told-2 shared-group-requires enum-known-g returns returns-2 returns-3)
+    (tie.spec enum-told enum-known-item find-in-item-requires enum-told-2 shared-group-requires enum-known-g returns returns-2 returns-3)

@@ -2,7 +2,7 @@
 use mathlib.Core.Path.{_∙_, sym}
 use Rattle.node.specs.Nodes.{nodesOf}
 use borrow.Author.Needs.{needs}
-use Rattle.steps.proofs.Laws as laws
+use Rattle.element.proofs.Laws as element-laws
 use Rattle.steps.proofs.range_at.Statement.{statement}
 use Rattle.steps.proofs.range_at.Tie as tie
 
@@ -12,12 +12,12 @@ has-pairs-requires c κs = search needs
 value-requires : tie.Need-value-requires
 value-requires c κs = search needs
 
-in-pairs-requires : tie.Need-in-pairs-requires
-in-pairs-requires c κs =
+is-in-pairs-requires : tie.Need-is-in-pairs-requires
+is-in-pairs-requires c κs =
     let entry = c .before .before .before .before .before in
     let a = entry .args in
     rw (c .value .ensures)
-    (laws.pairs-whole (nodesOf (a .bytes .now)) (a .i) (sym (c .before .before .has-pairs .ensures) ∙ c .before .if1 .taken))
+    (element-laws.pairs-whole (nodesOf (a .bytes .now)) (a .i) (sym (c .before .before .has-pairs .ensures) ∙ c .before .if1 .taken))
 
 returns : tie.Need-returns
 returns c =
@@ -27,7 +27,7 @@ returns c =
       ← at-has-pairs .has-pairs .ensures,
       at-if1 .if1 .taken,
       ← c .before .before .value .ensures,
-      ← c .before .in-pairs .ensures,
+      ← c .before .is-in-pairs .ensures,
       c .if2 .taken,
     )
 
@@ -39,7 +39,7 @@ returns-2 c =
       ← at-has-pairs .has-pairs .ensures,
       at-if1 .if1 .taken,
       ← c .before .before .value .ensures,
-      ← c .before .in-pairs .ensures,
+      ← c .before .is-in-pairs .ensures,
       c .if2 .left,
     )
 
@@ -48,4 +48,4 @@ returns-3 c =
     rw (← c .before .has-pairs .ensures, c .if1 .left)
 
 pub range-at-spec : {M : Type 1} → statement M
-range-at-spec = tie.close (tie.spec has-pairs-requires value-requires in-pairs-requires returns returns-2 returns-3)
+range-at-spec = tie.close (tie.spec has-pairs-requires value-requires is-in-pairs-requires returns returns-2 returns-3)

@@ -12,7 +12,7 @@ shift-by-requires c κs =
       entry .pre .0,
       (
         entry .pre .1 .0,
-        (entry .pre .1 .1 .0, (entry .pre .1 .1 .1, record { is = c .shared-naming .ensures .0; below = c .shared-naming .ensures .1 })),
+        (entry .pre .1 .1, record { is = c .shared-naming .ensures .0; below = c .shared-naming .ensures .1 }),
       ),
     )
 

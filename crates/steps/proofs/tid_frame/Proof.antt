@@ -1,6 +1,7 @@
 -- A plus goes back in the frames and a minus forward; both numbers are far too small for the sum to wrap.
 use Rattle.steps.specs.Steps.{tidFrame}
 use Rattle.steps.specs.Contracts.{signedOf}
+use Rattle.value.specs.Number.{ssLimit}
 use borrow.Author.Needs.{needs}
 use native.Mathlib.Omega.{arith}
 use Rattle.steps.proofs.Laws as laws
@@ -26,7 +27,7 @@ add-among-frames : tie.Need-add-among-frames
 add-among-frames c =
     let at-offset-of = c .before .before .before in
     let entry = at-offset-of .before .before .before in
-    omega (arith, laws.minus-within 32769 (c .before .d2 .given .1) (at-offset-of .offset-of .ensures .1), entry .pre .1 .1 .0)
+    omega (arith, laws.minus-within ssLimit (c .before .d2 .given .1) (at-offset-of .offset-of .ensures .1), entry .pre .1 .1 .0)
 
 among-frames-requires-2 : tie.Need-among-frames-requires-2
 among-frames-requires-2 c κs = search needs

@@ -9,7 +9,7 @@ shared-window-requires c κs = search needs
 window-by-requires : tie.Need-window-by-requires
 window-by-requires c κs =
     let entry = c .before .before .before in
-    (entry .pre .0, (entry .pre .1 .0, (entry .pre .1 .1 .0, c .shared-window .ensures)))
+    (entry .pre .0, (entry .pre .1 .0, c .shared-window .ensures))
 
 returns : tie.Need-returns
 returns c =

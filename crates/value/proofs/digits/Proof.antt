@@ -5,7 +5,7 @@ use Prim.Native.Nat.{_+_, _-_, _*_, _^_, _≤_}
 use native.Mathlib.Omega.{arith}
 use borrow.Author.Needs.{needs}
 use lib.ListN.{length, drop}
-use Rattle.value.specs.Number.{digitsOf}
+use Rattle.value.specs.Number.{characters, digitsOf}
 use Rattle.value.proofs.Runs as runs
 use Rattle.value.proofs.digits.Statement.{statement}
 use Rattle.value.proofs.digits.Tie as tie
@@ -15,7 +15,7 @@ use Rattle.value.proofs.digits.Tie as tie
 abbrev Inv-loop : tie.InvT-loop
 Inv-loop s limit start number₀ left₀ i₀ number left i =
     (digitsOf left number i (drop i s) ≡ digitsOf limit start 0 s)
-    × (((number + 1) * 10 ^ left ≤ 10000000000000000) × ((left + i ≡ limit) × (i ≤ length s)))
+    × (((number + 1) * 10 ^ left ≤ 10 ^ characters) × ((left + i ≡ limit) × (i ≤ length s)))
 
 abbrev μ-loop : tie.MeasureT-loop
 μ-loop s limit start number₀ left₀ i₀ number left i =
@@ -66,13 +66,13 @@ mul-number : tie.Need-mul-number Inv-loop μ-loop
 mul-number c =
     let at-loop = c .before .before .before .before .before .before in
     let l = at-loop .loop in
-    omega (arith, runs.bounded (l .number) (l .left) 10000000000000000 (l .inv .1 .0))
+    omega (arith, runs.bounded (l .number) (l .left) (10 ^ characters) (l .inv .1 .0))
 
 add-number : tie.Need-add-number Inv-loop μ-loop
 add-number c =
     let at-loop = c .before .before .before .before .before .before in
     let l = at-loop .loop in
-    omega (arith, runs.bounded (l .number) (l .left) 10000000000000000 (l .inv .1 .0), c .before .before .wide .ensures .1)
+    omega (arith, runs.bounded (l .number) (l .left) (10 ^ characters) (l .inv .1 .0), c .before .before .wide .ensures .1)
 
 sub-left : tie.Need-sub-left Inv-loop μ-loop
 sub-left c =
@@ -98,7 +98,7 @@ loop-again c =
       rw w (sym (runs.next-digit (entry .args .s .now) (l .i) (l .left) (l .number) (l .i) (at-loop-test .loop-test .taken)
           (at-if1 .if1 .left) (omega (arith, w, c .before .if2 .left)) (omega (arith, w, c .if3 .left))) ∙ l .inv .0),
       (
-        runs.next-size (l .number) (c .before .before .wide .result - 0x30) (l .left) 10000000000000000 (at-if1 .if1 .left)
+        runs.next-size (l .number) (c .before .before .wide .result - 0x30) (l .left) (10 ^ characters) (at-if1 .if1 .left)
             (omega (arith, c .if3 .left)) (l .inv .1 .0),
         (omega (arith, at-if1 .if1 .left), omega arith),
       ),

@@ -2,14 +2,14 @@
 use mathlib.Core.Path.{_≡_, refl, sym, ap, _∙_}
 use Prim.Native.Nat.{_*_, _^_, _≤_}
 use native.Mathlib.Omega.{arith}
-use Rattle.value.specs.Number.{ifSmall}
+use Rattle.value.specs.Number.{characters, ifSmall}
 use Rattle.value.proofs.Powers as powers
 use Rattle.value.proofs.multiplied.Statement.{statement}
 use Rattle.value.proofs.multiplied.Tie as tie
 
 abbrev Inv-loop : tie.InvT-loop
 Inv-loop m e n₀ left₀ n left =
-    (n * 10 ^ left ≡ m * 10 ^ e) × (n ≤ 10000000000000000)
+    (n * 10 ^ left ≡ m * 10 ^ e) × (n ≤ 10 ^ characters)
 
 abbrev μ-loop : tie.MeasureT-loop
 μ-loop m e n₀ left₀ n left =

@@ -1,7 +1,8 @@
 -- A plus raises the power to multiply by, a minus the power to divide by, and neither sum is large enough to wrap.
 use mathlib.Core.Path.{sym, ap, _∙_}
 use native.Mathlib.Omega.{arith}
-use Rattle.value.specs.Number.{scaledBy}
+use Prim.Native.Nat.{_^_}
+use Rattle.value.specs.Number.{characters, scaledBy}
 use Rattle.value.proofs.Laws as laws
 use borrow.Author.Needs.{needs}
 use Rattle.value.proofs.scaled.Statement.{statement}
@@ -13,7 +14,7 @@ enum-known-exponent c = search needs
 add-exact : tie.Need-add-exact
 add-exact c =
     let entry = c .before .before .before in
-    omega (arith, laws.below-plus 10000000000000000 _ (entry .args .exponent) (c .before .exponent .given .1) (entry .pre .1 .1))
+    omega (arith, laws.below-plus (10 ^ characters) _ (entry .args .exponent) (c .before .exponent .given .1) (entry .pre .1 .1))
 
 exact-requires : tie.Need-exact-requires
 exact-requires c κs = search needs
@@ -24,7 +25,7 @@ enum-known-exponent-2 c = search needs
 add-exact-2 : tie.Need-add-exact-2
 add-exact-2 c =
     let entry = c .before .before .before in
-    omega (arith, laws.below-minus 10000000000000000 _ (entry .args .exponent) (c .before .exponent2 .given .1) (entry .pre .1 .1))
+    omega (arith, laws.below-minus (10 ^ characters) _ (entry .args .exponent) (c .before .exponent2 .given .1) (entry .pre .1 .1))
 
 exact-requires-2 : tie.Need-exact-requires-2
 exact-requires-2 c κs = search needs

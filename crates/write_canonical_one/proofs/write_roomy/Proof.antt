@@ -7,8 +7,8 @@ use borrow.Author.Needs.{needs}
 use Rattle.write_canonical_one.proofs.write_roomy.Statement.{statement}
 use Rattle.write_canonical_one.proofs.write_roomy.Tie as tie
 
-byte-bounds-requires : tie.Need-byte-bounds-requires
-byte-bounds-requires c κs = search needs
+knows-bytes-requires : tie.Need-knows-bytes-requires
+knows-bytes-requires c κs = search needs
 
 write-canonical-requires : tie.Need-write-canonical-requires
 write-canonical-requires c κs = search needs
@@ -22,8 +22,8 @@ same-length-2 c = search needs
 returns : tie.Need-returns
 returns c =
     let at-write-canonical = c .before .before .before .before in
-    let at-byte-bounds = at-write-canonical .before .before .before in
-    let entry = at-byte-bounds .before .before .before .before in
+    let at-knows-bytes = at-write-canonical .before .before .before in
+    let entry = at-knows-bytes .before .before .before .before in
     let a = entry .args in
     let p = entry .pre in
     let w = at-write-canonical .write-canonical in
@@ -35,7 +35,7 @@ returns c =
           subst (λ (r : CanonicalAnswer). Held r (w .last .1 .1 .0)) (sym (e .0 .same))
               (held (a .bytes .now) (a .rows .now) (a .target .now) (w .last .1 .1 .0) (search needs)),
           subst Roomy (sym (e .0 .same))
-              (roomy (a .bytes .now) (a .rows .now) (a .target .now) (at-byte-bounds .byte-bounds .ensures) (p .0) (p .1)),
+              (roomy (a .bytes .now) (a .rows .now) (a .target .now) (at-knows-bytes .knows-bytes .ensures) (p .0) (p .1)),
         ),
       ),
     )
@@ -43,4 +43,4 @@ returns c =
 pub write-roomy-spec : {M : Type 1} → statement M
 write-roomy-spec =
     tie.close
-    (tie.spec byte-bounds-requires write-canonical-requires same-length same-length-2 returns)
+    (tie.spec knows-bytes-requires write-canonical-requires same-length same-length-2 returns)

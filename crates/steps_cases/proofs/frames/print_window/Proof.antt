@@ -41,7 +41,7 @@ window-for-requires : tie.Need-window-for-requires
 window-for-requires c κs =
     let entry = c .before .before .before .before .before .before .before in
     let p = entry .pre in
-    (p .0, (p .1 .1 .0, (p .1 .1 .1, omega (arith, c .if2 .left))))
+    (p .0, (p .1 .1, omega (arith, c .if2 .left)))
 
 print-window-requires : tie.Need-print-window-requires
 print-window-requires c κs = search needs
