@@ -1,6 +1,6 @@
 -- The row of Pixel Data is no sequence and no item, so its node's value is the part of the data set that the row names; and the view of a
 -- frame is a part of that part.
-use mathlib.Core.Path.{_≡_, refl, sym, ap, _∙_, subst}
+use mathlib.Core.Path.{_≡_, refl, ap, _∙_, subst}
 use mathlib.Core.Bool.{Bool, true, false}
 use mathlib.Core.List.{List}
 use mathlib.Core.Logic.{_⊎_, inl, inr}
@@ -9,7 +9,6 @@ use native.Mathlib.Omega.{arith}
 use lib.ListN.{length, List·getD-eq-default}
 use lib.Dec.{ltb}
 use borrow.Author.Tests.{ltb-true, ltb-false}
-use denote.Ref.{RefT}
 use Rattle.basics.specs.Vr.{OB, OW}
 use Rattle.dataset.specs.Answer.{flat}
 use Rattle.dataset.specs.Tree.{rowsOf}

@@ -42,7 +42,7 @@ use Rattle.steps.specs.declared.Applying.{Applying}
 use Rattle.steps.specs.declared.Applying.the-variants.{Item, Nothing}
 use Rattle.steps.specs.Given.{need, check, then}
 use Rattle.steps.specs.Steps.{isInPairs, rangeHas, rangeHolds, firstHolding, onMask, applyingTo, averageFrames, offsetAt}
-use Rattle.steps.specs.Steps.{offsetOf, less, tidFrame, naming, ownIn, itemShiftAt, shiftFrom, shiftFor, movesFor, Mask, native, masked}
+use Rattle.steps.specs.Steps.{offsetOf, less, tidFrame, naming, ownIn, itemShiftAt, shiftFrom, shiftFor, movesFor, native, masked}
 use Rattle.steps.specs.Steps.{onTid, maskBy, maskOn, maskFor}
 use Rattle.steps.proofs.Given.{checked}
 use Rattle.display.specs.Contracts.{AllWithin, Short, Gives}

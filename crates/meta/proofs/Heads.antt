@@ -17,7 +17,6 @@ use Rattle.dataset.specs.Reading.{Row, row, Run, elementsAt, valueRun, depths}
 use Rattle.dataset.specs.Contracts.{Within, Walked}
 use Rattle.dataset.proofs.Level as level
 use Rattle.dataset.proofs.Depths.{Deep, RunDeep, value-deep}
-use Rattle.meta.specs.declared.Uid.{Uid}
 use Rattle.meta.specs.declared.HeadFindings.{HeadFindings}
 use Rattle.meta.specs.declared.Elements.the-variants as elements
 use Rattle.meta.specs.Meta.{start, uidAt, noneFound, noted, foundIn}

@@ -135,7 +135,7 @@ fn header(file: &[u8], c: Cursor, least: usize) -> Head
         return Head::Refused(1);
     }
     let tag = basics::tag_at(file, c.at);
-    if tag / 65536 == 0xFFFE {
+    if tag / 65536 == tags::ITEM_GROUP {
         return Head::Refused(5);
     }
     if tag < least {

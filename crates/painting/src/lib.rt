@@ -1,7 +1,6 @@
 // A frame's picture painted line by line, each line drawn into its own part of the image.
 ghost use mathlib.Core.Path.{_≡_};
 ghost use mathlib.Core.Bool.{true};
-ghost use lib.ListN.{length};
 ghost use Rattle.value.specs.Number.{usValues};
 ghost use Rattle.shift.specs.Contracts.{ShortMoves};
 ghost use Rattle.pixel.specs.Pixel.{samplesOf};

@@ -8,7 +8,7 @@ use native.Mathlib.Omega.{arith}
 use lib.ListN.{length, drop}
 use borrow.Author.Tests.{le-leb, ne-eqb}
 use Rattle.value.specs.declared.Num.the-variants.{Is, None}
-use Rattle.node.specs.Nodes.{Node, nodesOf}
+use Rattle.node.specs.Nodes.{Node}
 use Rattle.node.proofs.Walks.{members-end, members-next}
 use Rattle.element.specs.declared.Items.{Items}
 use Rattle.element.specs.Contracts.{Along}

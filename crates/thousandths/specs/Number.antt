@@ -11,7 +11,7 @@ use Rattle.value.specs.declared.Function.{Function}
 use Rattle.value.specs.declared.Function.the-variants as function
 use Rattle.value.specs.Text.{valuesOf, trimmed}
 use Rattle.value.specs.Number as current
-use Rattle.value.specs.Number.{Digits, digitsOf, signedBy, isNumber, isWidth, all}
+use Rattle.value.specs.Number.{Digits, point, digitsOf, signedBy, isNumber, isWidth, all}
 
 -- Read in thousandths, that is with 3 decimals.
 abbrev pub decimalsBefore : ℕ
@@ -31,7 +31,7 @@ pointByBefore whole d = pointOnBefore whole d (d .rest)
 
 abbrev pub fractionOnBefore : Digits → List ℕ → Num
 fractionOnBefore d [] = cond (eqb (d .count) 0) num.None (num.Is (d .number * unitBefore))
-fractionOnBefore d (c ∷ s) = cond (eqb c 0x2E) (pointByBefore (d .count) (digitsOf decimalsBefore (d .number) 0 s)) num.None
+fractionOnBefore d (c ∷ s) = cond (eqb c point) (pointByBefore (d .count) (digitsOf decimalsBefore (d .number) 0 s)) num.None
 
 abbrev pub fractionByBefore : Digits → Num
 fractionByBefore d = fractionOnBefore d (d .rest)

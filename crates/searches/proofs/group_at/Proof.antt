@@ -6,7 +6,6 @@ use Rattle.searches.proofs.Loops.{group-lacks, group-both, group-own, g
 use borrow.Author.Needs.{needs}
 use Rattle.searches.proofs.group_at.Statement.{statement}
 use Rattle.searches.proofs.group_at.Tie as tie
-use Rattle.searches.proofs.group_at.Reads as reads
 
 look-item-requires : tie.Need-look-item-requires
 look-item-requires c κs = search needs

@@ -11,7 +11,6 @@ use Rattle.searches.specs.Contracts.{overGroup}
 use Rattle.searches.proofs.Loops.{over-end, over-next, over-fits}
 use Rattle.searches.proofs.over_frames.Statement.{statement}
 use Rattle.searches.proofs.over_frames.Tie as tie
-use Rattle.searches.proofs.over_frames.Reads as reads
 
 abbrev Inv-loop : tie.InvT-loop
 Inv-loop bytes rows shared group always reads part end at₀ sum₀ at sum =
