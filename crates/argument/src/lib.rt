@@ -1,8 +1,10 @@
 // A number in plain decimal digits, from an argument of a program; and the frame number that is the one argument of some programs.
+#![tactic(auto)]
+
 ghost use Rattle.std.specs.Prelude.{◌≡◌, ◌<◌};
 ghost use Rattle.argument.specs.Digits.{more_of, with_byte, argument_of};
 
-#[derive(Drop)]
+#[derive(Clone, Copy)]
 pub enum Decimal {
     Number(u64),
     TooLarge,
@@ -51,7 +53,7 @@ pub fn read_decimal(text: &[u8]) -> Decimal
     d
 }
 
-#[derive(Drop)]
+#[derive(Clone, Copy)]
 pub enum FrameArgument {
     Number(u64),
     None,

@@ -1,5 +1,7 @@
 // What most crates build on: numbers in bytes, tags, VRs, and how large a data set may be. specs/ defines each, and the fields of an
 // answer. No function of this crate is a public call: one that reads at an offset requires that the bytes there exist.
+#![tactic(auto)]
+
 ghost use Rattle.std.specs.Prelude.{◌≡◌, ◌+◌, ◌-◌, ◌≤◌, ◌<◌, length};
 ghost use Rattle.basics.specs.Bytes.{same_bytes, le16, le32, tag_at, vr_at};
 ghost use Rattle.basics.specs.Vr.{form_of};

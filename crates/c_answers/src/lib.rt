@@ -1,4 +1,6 @@
 // What every call for hosts in C shares: the version, and the struct of numbers that it answers with, made by what a code names.
+#![tactic(auto)]
+
 ghost use Rattle.std.specs.Prelude.{◌≡◌, cond};
 ghost use Rattle.basics.specs.Fields.{code_alone, placed, counted, drawn, broken};
 ghost use Rattle.c_answers.specs.Host.{host_version, hosted, with_searches};
@@ -15,7 +17,7 @@ pub fn host_version() -> u32
 
 // What every call answers. Fields that a code does not name are 0; the definitions `fields_of` say which code names which.
 #[repr(C)]
-#[derive(Drop)]
+#[derive(Clone, Copy)]
 pub struct Answer {
     pub code: u32,
     pub offset: u32,

@@ -1,4 +1,6 @@
 // The answer of writing the canonical form as numbers, for hosts in C.
+#![tactic(auto)]
+
 ghost use Rattle.std.specs.Prelude.{◌≡◌};
 ghost use Rattle.canonical.specs.Answer.{fields_of};
 ghost use Rattle.c_canonical.specs.Rewritten.{rewritten_of};
@@ -8,7 +10,7 @@ use canonical::CanonicalAnswer;
 
 // What writing answers with. Fields that a code does not name are 0.
 #[repr(C)]
-#[derive(Drop)]
+#[derive(Clone, Copy)]
 pub struct Rewritten {
     pub code: u32,
     pub offset: u32,

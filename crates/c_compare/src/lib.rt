@@ -1,4 +1,6 @@
 // The answer of comparing another workstation's picture with ours as numbers, for hosts in C.
+#![tactic(auto)]
+
 ghost use Rattle.std.specs.Prelude.{◌≡◌};
 ghost use Rattle.compare.specs.Answer.{fields_of};
 ghost use Rattle.c_compare.specs.Compared.{compared_of, no_cell};
@@ -10,7 +12,7 @@ use compare::CompareAnswer;
 // What comparing answers with: with code 0 whether all cells are within the tolerance, and else the first that is not and how many
 // are not.
 #[repr(C)]
-#[derive(Drop)]
+#[derive(Clone, Copy)]
 pub struct Compared {
     pub answer: Answer,
     pub same: u32,

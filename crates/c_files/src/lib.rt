@@ -1,4 +1,6 @@
 // The answers about files as numbers, for hosts in C.
+#![tactic(auto)]
+
 ghost use Rattle.std.specs.Prelude.{◌≡◌};
 ghost use Rattle.file_read.specs.ReadFile.{start_fields, read_fields};
 ghost use Rattle.file_judge.specs.JudgeFile.{judge_fields};
@@ -16,7 +18,7 @@ use file_show::ShowFileAnswer;
 
 // Where a file's data set starts: code 0, or 15, 16 or 17 with start 0.
 #[repr(C)]
-#[derive(Drop)]
+#[derive(Clone, Copy)]
 pub struct Part {
     pub code: u32,
     pub start: usize,

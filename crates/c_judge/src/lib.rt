@@ -1,4 +1,6 @@
 // The answer of judging as numbers, the sum of its searches among them, for hosts in C.
+#![tactic(auto)]
+
 ghost use Rattle.std.specs.Prelude.{◌≡◌};
 ghost use Rattle.conformance.specs.Judging.{fields_of};
 ghost use Rattle.searches.specs.Reported as reporting;

@@ -1,4 +1,6 @@
 // The answer of mapping back to beam intensity as numbers, for hosts in C; and a level of the square root derivation in a byte.
+#![tactic(auto)]
+
 ghost use Rattle.std.specs.Prelude.{◌≡◌};
 ghost use Rattle.linear.specs.Answer.{fields_of};
 ghost use Rattle.squareroot.specs.SquareRoot.{root_level};

@@ -1,4 +1,6 @@
 // The answers of reading and counting as numbers, for hosts in C.
+#![tactic(auto)]
+
 ghost use Rattle.std.specs.Prelude.{◌≡◌};
 ghost use Rattle.dataset.specs.Answer.{fields_of};
 ghost use Rattle.c_answers.specs.Host.{hosted};

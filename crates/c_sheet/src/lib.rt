@@ -1,4 +1,6 @@
 // The answer of sampling as numbers, and the sheet in a buffer, for hosts in C.
+#![tactic(auto)]
+
 ghost use Rattle.std.specs.Prelude.{◌≡◌, ◌≤◌, length, get_or};
 ghost use Rattle.pixel.specs.Internal.{painted};
 ghost use Rattle.sheet.specs.Sheet.{sheet_size, numbers_in};

@@ -1,4 +1,6 @@
 // The answer of drawing a frame as numbers, for hosts in C.
+#![tactic(auto)]
+
 ghost use Rattle.std.specs.Prelude.{◌≡◌};
 ghost use Rattle.display.specs.Show.{fields_of};
 ghost use Rattle.c_answers.specs.Host.{hosted};

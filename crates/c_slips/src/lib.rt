@@ -1,4 +1,6 @@
 // Verdict slips, for hosts in C: the two calls with verdicts as numbers.
+#![tactic(auto)]
+
 ghost use Rattle.std.specs.Prelude.{◌≡◌, ◌<◌};
 ghost use Rattle.slip.specs.Slip.{read_of, read_slip_fields, write_of, write_slip_fields, slip_buffer};
 ghost use Rattle.c_slips.specs.Slips.{count_in, verdict_in, known_number, rows_number, hosted_slip, verdict_answer};
@@ -14,7 +16,7 @@ const NOT_KNOWN: u32 = 4_294_967_295;
 // What reading a slip answers: code 0 and the verdict, with whether its row count is known (`rows_known` in C); or a refusal's
 // code, all else being 0.
 #[repr(C)]
-#[derive(Drop)]
+#[derive(Clone, Copy)]
 pub struct Slip {
     pub code: u32,
     pub known: u32,

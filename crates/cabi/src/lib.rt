@@ -1,5 +1,7 @@
 // The library's calls for hosts in C, or in any language that can call C; include/luuxidgaan.h declares them. None has a `requires`: they
 // take any bytes and any buffers. Each makes one call of the library and hands its answer over as numbers.
+#![tactic(auto)]
+
 ghost use Rattle.std.specs.Prelude.{◌≡◌};
 ghost use Rattle.dataset.specs.Reading.{reading_of};
 ghost use Rattle.dataset.specs.Answer.{answer_of, count_of, buffer_of};

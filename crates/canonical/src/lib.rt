@@ -1,5 +1,7 @@
 // The canonical form of a data set: defined lengths throughout and no delimiters. specs/Written.antt says what is written;
 // `write_canonical`, at the end, is the public call.
+#![tactic(auto)]
+
 ghost use Rattle.std.specs.Prelude.{◌≡◌, ◌+◌, ◌-◌, ◌≤◌, ◌<◌, length, ltb};
 ghost use Rattle.std.proofs.Math.Seq.{slice};
 ghost use Rattle.dataset.specs.Reading.{reading_of};
@@ -179,7 +181,7 @@ pub fn knows_bytes(bytes: &[u8])
 
 // The answer of `write_canonical`: the number of rows and of bytes written; the number of bytes that would be written, code 21; code and
 // offset; code 7; code 8.
-#[derive(Drop)]
+#[derive(Clone, Copy)]
 pub enum CanonicalAnswer {
     Done(usize, usize),
     NoTargetRoom(usize),

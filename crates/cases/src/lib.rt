@@ -1,11 +1,13 @@
 // Small cases one after the other, for the programs that run them: each is its size, in two bytes with the lower one first, and then
 // its bytes.
+#![tactic(auto)]
+
 ghost use Rattle.std.specs.Prelude.{◌≤◌, length};
 
 use basics::u16_at;
 
 // Where the bytes of a case start and end.
-#[derive(Drop)]
+#[derive(Clone, Copy)]
 pub struct Case {
     pub start: usize,
     pub end: usize,

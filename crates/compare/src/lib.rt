@@ -1,4 +1,6 @@
 // Compares another workstation's picture of a frame with ours, cell by cell. No image is kept: each line is drawn by itself.
+#![tactic(auto)]
+
 ghost use Rattle.std.specs.Prelude.{◌≡◌, ℕ, ◌≤◌, ◌<◌, get_or};
 ghost use Rattle.dataset.specs.Reading.{reading_of};
 ghost use Rattle.basics.specs.Fields.{Answers};
@@ -32,7 +34,7 @@ const MOST: usize = 255;
 
 // The answer of `compare`: yes, with the number of rows; no, with the number of rows, the first cell that is off and how many are off;
 // code 9, with the number of rows, rule and frame; code and offset of a refusal; codes 7, 8, 10, 22 and 23.
-#[derive(Drop)]
+#[derive(Clone, Copy)]
 pub enum CompareAnswer {
     Same(usize),
     Differs(usize, usize, usize),

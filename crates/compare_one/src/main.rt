@@ -1,6 +1,8 @@
 // Compares another workstation's picture with one frame of a data set. Its arguments are the frame's number, the tolerance and the length
 // of the data set; standard input has the data set and, after that many bytes, the cells, one byte each. It prints yes; or no with the
 // first cell that is off and how many are off; or the refusal, in a line.
+#![tactic(auto)]
+
 ghost use Rattle.std.specs.Prelude.{◌≡◌, ◌≤◌, length};
 
 use argument::Decimal;

@@ -1,4 +1,6 @@
 // Comparing with a frame of a data set of at most 65,536 bytes with its own row buffer, for the program that compares.
+#![tactic(auto)]
+
 ghost use Rattle.std.specs.Prelude.{◌≡◌, ◌≤◌, length};
 ghost use Rattle.compare_small.specs.Internal.{roomy_compare};
 

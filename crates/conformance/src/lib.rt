@@ -1,4 +1,6 @@
 // The judge: reads a data set afresh, and finds the first broken rule and the lowest frame that breaks it.
+#![tactic(auto)]
+
 ghost use Rattle.std.specs.Prelude.{◌≡◌, ◌+◌, ◌-◌, ◌*◌, ◌≤◌, ◌<◌, true, false, length, drop};
 ghost use Rattle.value.specs.Number.{integer_limit, number_or0};
 ghost use Rattle.dataset.specs.Reading.{reading_of};
@@ -24,7 +26,7 @@ use verdict::{RowCount, Verdict};
 const END_RULE: usize = verdict::LAST_RULE + 1;
 
 // The result of the rules: all hold, or the first broken one and its lowest frame.
-#[derive(Drop)]
+#[derive(Clone, Copy)]
 pub enum Finding {
     Accepted,
     Broken(usize, usize),
@@ -32,7 +34,7 @@ pub enum Finding {
 
 // The answer of `judge`: accepted, with the number of rows; code 9, with the number of rows, rule and frame; code and
 // offset of a refusal; code 7; code 8.
-#[derive(Drop)]
+#[derive(Clone, Copy)]
 pub enum JudgeAnswer {
     Accepted(usize),
     Broken(usize, usize, usize),

@@ -1,5 +1,7 @@
 // The reader of a data set in Explicit VR Little Endian: a row for each element and item, or the first refusal.
 // specs/ says what a reading is, in the order of the paper; `count` and `read`, at the end, are the public calls.
+#![tactic(auto)]
+
 ghost use Rattle.std.specs.Prelude.{◌≡◌, ◌+◌, ◌-◌, ◌*◌, ◌≤◌, ◌<◌, [], ◌∷◌, length};
 ghost use Rattle.std.proofs.lemmas.List.Edits.{sets};
 ghost use Rattle.dataset.specs.Header.{moved, delimiter_by, nested_by, defined_by, long_by, typed_at, tagged_at, sized_by, member_at};
@@ -33,7 +35,7 @@ pub const DEPTHS: usize = 8;
 const UNDEFINED: usize = 0xFFFF_FFFF;
 
 // An offset in the data set, the innermost known end, and whether a delimiter closes what is read here.
-#[derive(Drop)]
+#[derive(Clone, Copy)]
 pub struct Cursor {
     pub at: usize,
     pub end: usize,
@@ -43,7 +45,7 @@ pub struct Cursor {
 // What is at a cursor: a header's tag and VR, with the cursor moved onto its value; the end of what is read, with the cursor moved after
 // it; or a refusal's code. An end has the tag of its delimiter and VR 0, or 0 for both at a known end. It has the fields of a header, in
 // their order, because that makes the readers' loops faster.
-#[derive(Drop)]
+#[derive(Clone, Copy)]
 pub enum Head {
     Header(usize, usize, Cursor),
     End(usize, usize, Cursor),
@@ -52,14 +54,14 @@ pub enum Head {
 
 // The result of a walk along one level: where its value stops, the offset reached and the number of the next row; or a refusal's code and
 // offset.
-#[derive(Drop)]
+#[derive(Clone, Copy)]
 pub enum Walk {
     Done(usize, usize, usize),
     Refused(usize, usize),
 }
 
 // The result of a walk along an item that is abandoned at a sequence: as in `Walk`, or abandoned.
-#[derive(Drop)]
+#[derive(Clone, Copy)]
 enum Leaf {
     Done(usize, usize, usize),
     Refused(usize, usize),
@@ -67,7 +69,7 @@ enum Leaf {
 }
 
 // The answer of `read` and `count`: the number of rows; code and offset; code 7; code 8.
-#[derive(Drop)]
+#[derive(Clone, Copy)]
 pub enum ReadAnswer {
     Done(usize),
     Refused(usize, usize),

@@ -1,4 +1,6 @@
 // A line of our picture against another workstation's cells: which are off, how many, and the first of them.
+#![tactic(auto)]
+
 ghost use Rattle.std.specs.Prelude.{◌≡◌, not, ◌+◌, ◌≤◌, ◌<◌, length, get_or};
 ghost use Rattle.differences.specs.Differences.{within};
 ghost use Rattle.differences.specs.Internal.{seen, along, none_off, LineOf};
@@ -6,7 +8,7 @@ ghost use Rattle.differences.specs.Internal.{seen, along, none_off, LineOf};
 use basics::wide;
 
 // How many cells were off so far, and the first of them; 0 where none was.
-#[derive(Drop)]
+#[derive(Clone, Copy)]
 pub struct Differing {
     pub first: usize,
     pub count: usize,

@@ -1,4 +1,6 @@
 // Draws a frame of an accepted data set.
+#![tactic(auto)]
+
 ghost use Rattle.std.specs.Prelude.{◌≡◌, ℕ, ◌*◌, ◌≤◌, ◌<◌, true, false, ◌++◌, length, drop, get_or};
 ghost use Rattle.std.proofs.Math.Option.{some};
 ghost use Rattle.value.specs.Number.{number_or0};
@@ -34,7 +36,7 @@ use window::Window;
 
 // The answer of `show`: drawn, with the number of rows and whether it is masked; code 9, with the number of rows, rule
 // and frame; code and offset of a refusal; codes 7, 8, 10 and 11.
-#[derive(Drop)]
+#[derive(Clone, Copy)]
 pub enum ShowAnswer {
     Drawn(usize, bool),
     Broken(usize, usize, usize),
@@ -46,7 +48,7 @@ pub enum ShowAnswer {
 }
 
 // What masks a frame: nothing; the frames that an element lists, moved; one frame, moved; or a step lacks something.
-#[derive(Drop)]
+#[derive(Clone, Copy)]
 pub enum Masking {
     Native,
     Average(usize, Moves),
@@ -260,7 +262,7 @@ fn is_inverse(bytes: &[u8], rows: &[u32]) -> bool
 
 // What all frames of an object share: the size of a frame, the pixel bytes' row, whether pictures are inverted, and the window of
 // the frames that have none of their own.
-#[derive(Drop)]
+#[derive(Clone, Copy)]
 pub struct Scene {
     pub g: Geometry,
     pub p: usize,
@@ -269,7 +271,7 @@ pub struct Scene {
 }
 
 // What a frame has of its own: its window, and what masks it.
-#[derive(Drop)]
+#[derive(Clone, Copy)]
 pub struct Plan {
     pub window: Window,
     pub masking: Masking,

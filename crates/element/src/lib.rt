@@ -1,5 +1,7 @@
 // Reads of one element by its tag, items of sequences, frames and their functional groups: the vocabulary of the rules and the drawing
 // steps.
+#![tactic(auto)]
+
 ghost use Rattle.std.specs.Prelude.{◌≡◌, ◌+◌, ◌≤◌, ◌<◌, length, drop};
 ghost use Rattle.node.specs.Nodes.{nodes_of, members, root, inside};
 ghost use Rattle.node.specs.Find.{absent, and_then, holds, find, of_vr, find_vr, has};
@@ -16,7 +18,7 @@ use basics::{tags, vrs};
 use value::{Function, Num, Signed};
 
 // The items that are left of a sequence: from `at` up to `end`.
-#[derive(Drop)]
+#[derive(Clone, Copy)]
 pub struct Items {
     pub at: usize,
     pub end: usize,

@@ -1,5 +1,7 @@
 // Judging files: the head, then the data set in place, then their SOP classes. specs/JudgeFile says what the calls answer and
 // specs/Searches the sum; the row buffer is left as reading leaves it.
+#![tactic(auto)]
+
 ghost use Rattle.std.specs.Prelude.{◌≡◌};
 ghost use Rattle.dataset.specs.Reading.{reading_of};
 ghost use Rattle.basics.specs.Fields.{Answers};
@@ -15,7 +17,7 @@ use conformance::JudgeAnswer;
 use meta::Meta;
 
 // The answer of `judge_file`: that of judging the data set; codes 15 to 18.
-#[derive(Drop)]
+#[derive(Clone, Copy)]
 pub enum JudgeFileAnswer {
     Judged(JudgeAnswer),
     NoMark,
@@ -25,7 +27,7 @@ pub enum JudgeFileAnswer {
 }
 
 // The answer of `judge_file`, and the sum of its searches: 0 with every answer but code 0.
-#[derive(Drop)]
+#[derive(Clone, Copy)]
 pub struct CountedFile {
     pub answer: JudgeFileAnswer,
     pub searches: usize,

@@ -1,5 +1,7 @@
 // Reading files: the head, then the data set in place, then their SOP classes. specs/ReadFile says what each call answers and what its
 // buffer then holds.
+#![tactic(auto)]
+
 ghost use Rattle.std.specs.Prelude.{◌≡◌, ◌≤◌, length};
 ghost use Rattle.dataset.specs.Reading.{reading_of};
 ghost use Rattle.basics.specs.Fields.{Answers};
@@ -14,7 +16,7 @@ use dataset::ReadAnswer;
 use meta::Meta;
 
 // Where the data set starts; codes 15, 16, 17.
-#[derive(Drop)]
+#[derive(Clone, Copy)]
 pub enum Start {
     At(usize),
     NoMark,
@@ -23,7 +25,7 @@ pub enum Start {
 }
 
 // The answer of `read_file`: that of reading the data set; codes 15 to 18.
-#[derive(Drop)]
+#[derive(Clone, Copy)]
 pub enum ReadFileAnswer {
     Read(ReadAnswer),
     NoMark,

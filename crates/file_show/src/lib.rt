@@ -1,5 +1,7 @@
 // Showing files: the head, then the data set in place, then their SOP classes, then the frame. specs/ShowFile says what the call
 // answers and what the image buffer then holds; the row buffer is left as reading leaves it.
+#![tactic(auto)]
+
 ghost use Rattle.std.specs.Prelude.{◌≡◌};
 ghost use Rattle.dataset.specs.Reading.{reading_of};
 ghost use Rattle.basics.specs.Fields.{Answers};
@@ -12,7 +14,7 @@ use display::ShowAnswer;
 use meta::Meta;
 
 // The answer of `show_file`: that of showing the data set; codes 15 to 18.
-#[derive(Drop)]
+#[derive(Clone, Copy)]
 pub enum ShowFileAnswer {
     Shown(ShowAnswer),
     NoMark,

@@ -1,4 +1,6 @@
 // A frame looked at as its own part of the pixel bytes: the bytes of a line, in the data set as lent.
+#![tactic(auto)]
+
 ghost use Rattle.std.specs.Prelude.{◌+◌, ◌-◌, ◌*◌, ◌≤◌, ◌<◌, length};
 ghost use Rattle.dataset.specs.Tree.{rows_of, row_at};
 ghost use Rattle.node.specs.Nodes.{nodes_of};
@@ -10,7 +12,7 @@ use basics::wider;
 use dataset::WIDTH;
 
 // A frame: its bytes, the number of its rows and of its columns. Public, since display/specs/FrameBytes speaks of it.
-#[derive(Drop)]
+#[derive(Clone, Copy)]
 pub struct FrameView<'a> {
     pub samples: &'a [u8],
     pub rows: usize,

@@ -1,4 +1,6 @@
 // Subtraction Item IDs: whether an item has one, and whether no two items have the same.
+#![tactic(auto)]
+
 ghost use Rattle.std.specs.Prelude.{◌≡◌, ◌≤◌, ◌<◌, length};
 ghost use Rattle.node.specs.Nodes.{nodes_of, members};
 ghost use Rattle.node.specs.Internal.{Table};

@@ -1,4 +1,6 @@
 // Rule 39's two functional groups: the intensity relationship, and the TO_LINEAR item of the LUTs.
+#![tactic(auto)]
+
 ghost use Rattle.std.specs.Prelude.{◌≡◌, ◌≤◌, ◌<◌, length};
 ghost use Rattle.node.specs.Nodes.{nodes_of, members};
 ghost use Rattle.node.specs.Internal.{Table};

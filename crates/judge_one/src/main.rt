@@ -1,5 +1,7 @@
 // Judges the data set on standard input: prints whether it is accepted, the numbers of the answer, and for a broken rule the frame's item
 // and row, and what the rule asks.
+#![tactic(auto)]
+
 mod sentence;
 
 use conformance::JudgeAnswer;

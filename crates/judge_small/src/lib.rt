@@ -1,4 +1,6 @@
 // Judging a data set of at most 65,536 bytes with its own row buffer, for the programs that judge.
+#![tactic(auto)]
+
 ghost use Rattle.std.specs.Prelude.{◌≡◌, ◌≤◌, length};
 ghost use Rattle.node.specs.Nodes.{nodes_of};
 ghost use Rattle.node.specs.Internal.{Table};
@@ -11,7 +13,7 @@ use room::row_buffer;
 use value::Num;
 
 // The judge's answer and, if a broken rule names a frame, the number of the row of that frame's item, counted from 1; otherwise 0.
-#[derive(Drop)]
+#[derive(Clone, Copy)]
 pub struct Located {
     pub answer: JudgeAnswer,
     pub row: usize,

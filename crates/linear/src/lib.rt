@@ -1,4 +1,6 @@
 // Maps a frame of an accepted data set back to beam intensity.
+#![tactic(auto)]
+
 ghost use Rattle.std.specs.Prelude.{◌≡◌, ℕ, ◌+◌, ◌*◌, ◌≤◌, ◌<◌, ◌++◌, length, drop, get_or};
 ghost use Rattle.conformance.specs.declared.Finding.TheVariants as finding;
 ghost use Rattle.basics.specs.Bytes.{le16};
@@ -24,7 +26,7 @@ use value::Num;
 
 // The answer of `linear`: mapped, with the number of rows; code 9, with the number of rows, rule and frame; code and offset
 // of a refusal; codes 7, 8, 10, 20 and 11.
-#[derive(Drop)]
+#[derive(Clone, Copy)]
 pub enum LinearAnswer {
     Mapped(usize),
     Broken(usize, usize, usize),

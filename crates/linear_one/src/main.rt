@@ -1,5 +1,7 @@
 // Maps one frame of the data set on standard input back to beam intensity. Its one argument is the frame's number. It writes
 // the numbers to standard output as a PGM image of 16 bits, the high byte first; or the refusal, in a line.
+#![tactic(auto)]
+
 ghost use Rattle.std.specs.Prelude.{◌≡◌, ◌*◌, ◌≤◌, length};
 
 use argument::FrameArgument;

@@ -1,4 +1,6 @@
 // Mapping a frame of a data set of at most 65,536 bytes with its own row buffer, for the program that maps.
+#![tactic(auto)]
+
 ghost use Rattle.std.specs.Prelude.{◌≡◌, ◌*◌, ◌≤◌, length};
 ghost use Rattle.linear_small.specs.Mapped.{linear_printed, values_printed};
 
@@ -7,7 +9,7 @@ use room::row_buffer;
 use show_small::{Sides, sides_of};
 
 // The answer of `linear`, and the sides of the frame; 0 and 0 if no frame was mapped.
-#[derive(Drop)]
+#[derive(Clone, Copy)]
 pub struct Mapped {
     pub answer: LinearAnswer,
     pub sides: Sides,

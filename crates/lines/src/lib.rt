@@ -1,4 +1,6 @@
 // Lines of a frame's picture, each drawn separately from the frame's own bytes.
+#![tactic(auto)]
+
 ghost use Rattle.std.specs.Prelude.{◌≡◌, ◌+◌, ◌-◌, ◌*◌, ◌/◌, ◌^◌, ◌≤◌, length};
 ghost use Rattle.value.specs.Number.{us_values};
 ghost use Rattle.shift.specs.Shift.{shift_unit};
@@ -13,7 +15,7 @@ use shift::Moves;
 use window::Window;
 
 // How cells become levels: by a window, inverted or not, and whether a table is filled with its levels.
-#[derive(Drop)]
+#[derive(Clone, Copy)]
 pub struct Shades {
     pub window: Window,
     pub inverse: bool,
@@ -22,7 +24,7 @@ pub struct Shades {
 
 // How the lines of a frame are drawn: without a mask, with a mask moved by whole pixels, or with mask rows blended two at a time. The
 // numbers are offsets down and to the right, in quarters.
-#[derive(Drop)]
+#[derive(Clone, Copy)]
 pub enum Way {
     Native,
     Whole(usize, usize),

@@ -1,6 +1,8 @@
 // The head of a file: where the data set starts, and where the SOP class is that the head names; or why it is refused. specs/Meta says
 // what a head is, in the order of the paper; `read_head`, at the end, is the public call. The head's rows are not stored: a walk along
 // its elements notes what is looked for.
+#![tactic(auto)]
+
 ghost use Rattle.std.specs.Prelude.{◌≡◌, ◌+◌, ◌-◌, ◌/◌, ◌≤◌, cond, false, length, eqb};
 ghost use Rattle.dataset.specs.Reading.{depths, elements_at, value_run};
 ghost use Rattle.dataset.specs.Header.{cursor, element_at};
@@ -19,14 +21,14 @@ const MARK: usize = 128;
 const START: usize = 132;
 
 // Where the value of a UID starts and stops.
-#[derive(Drop)]
+#[derive(Clone, Copy)]
 enum Uid {
     At(usize, usize),
     None,
 }
 
 // What is found in the head's elements at depth 0: whether all are of group 0002, and where the two UIDs are.
-#[derive(Drop)]
+#[derive(Clone, Copy)]
 struct HeadFindings {
     pub only: bool,
     pub class: Uid,
@@ -34,14 +36,14 @@ struct HeadFindings {
 }
 
 // The result of reading the head's elements: what was found in them, or that they break a reading check.
-#[derive(Drop)]
+#[derive(Clone, Copy)]
 enum Elements {
     Good(HeadFindings),
     Refused,
 }
 
 // What a head says: where the data set starts, and where the SOP class that the head names starts and stops; codes 15, 16, 17.
-#[derive(Drop)]
+#[derive(Clone, Copy)]
 pub enum Meta {
     Good(usize, usize, usize),
     NoMark,

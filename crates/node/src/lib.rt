@@ -1,4 +1,6 @@
 // The row table of a data set, node by node. The crates above see no offsets and no lengths.
+#![tactic(auto)]
+
 ghost use Rattle.std.specs.Prelude.{◌≡◌, ◌+◌, ◌-◌, ◌*◌, ◌≤◌, ◌<◌, length};
 ghost use Rattle.node.specs.Nodes.{nodes_of, node_at, next_node, members, root, inside};
 ghost use Rattle.node.specs.Find.{find, filled};

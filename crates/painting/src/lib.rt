@@ -1,4 +1,6 @@
 // A frame's picture painted line by line, each line drawn into its own part of the image.
+#![tactic(auto)]
+
 ghost use Rattle.std.specs.Prelude.{◌≡◌, true};
 ghost use Rattle.value.specs.Number.{us_values};
 ghost use Rattle.shift.specs.Internal.{ShortMoves};

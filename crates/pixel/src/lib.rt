@@ -1,4 +1,6 @@
 // Samples of frames, averages of mask frames, and drawing a row from a table of shades.
+#![tactic(auto)]
+
 ghost use Rattle.std.specs.Prelude.{◌≡◌, ℕ, ◌+◌, ◌-◌, ◌*◌, ◌/◌, ◌^◌, ◌≤◌, ◌<◌, min, length, get_or};
 ghost use Rattle.window.specs.Internal.{shade_places};
 ghost use Rattle.value.specs.Internal.{SizeBelow};
@@ -15,7 +17,7 @@ use basics::{less, u16_at, wide, wider};
 use value::{Signed, us_value};
 
 // The size of a frame, the bytes of a sample and the bits stored in it.
-#[derive(Drop)]
+#[derive(Clone, Copy)]
 pub struct Geometry {
     pub rows: usize,
     pub columns: usize,

@@ -1,4 +1,5 @@
 // Lines that several programs print. Each goes to the descriptor `to`: 1 is standard output, 2 standard error.
+#![tactic(auto)]
 
 // A name and its number.
 pub fn print_field(to: i32, name: &[u8], n: usize) {

@@ -1,6 +1,8 @@
 // Steps 2 to 4 for all frames of an object at once: which mask item applies to each frame, and what each mask item says for all frames:
 // its operation, and which item of the shared shift group names it. Each is worked out once, in time proportional to the frames, the
 // pairs of the ranges, the items of the group and the bytes of the operations.
+#![tactic(auto)]
+
 ghost use Rattle.std.specs.Prelude.{◌≡◌, [], ◌+◌, ◌%◌, ◌≤◌, ◌<◌, max, leb, length, get_or};
 ghost use Rattle.basics.specs.Limits.{most_rows, most_masks};
 ghost use Rattle.value.specs.declared.Num.TheVariants as num;

@@ -1,5 +1,7 @@
 // Prints the reading of each small case on standard input (crates/cases says what a case is). tests/make_read_cases writes the cases and,
 // by another program, the output that is expected.
+#![tactic(auto)]
+
 ghost use Rattle.std.specs.Prelude.{◌≡◌, length};
 
 use cases::{case_at, print_rest};

@@ -1,4 +1,6 @@
 // Prints the slip on standard input: a line of numbers, then what it means in words.
+#![tactic(auto)]
+
 use printing::print_field;
 use slip::SlipAnswer;
 use verdict::{RowCount, Verdict};

@@ -1,5 +1,7 @@
 // Buffers for what a program reads from standard input, and for its rows. Separate functions make them and state their lengths, so that
 // no proof computes lengths from the arrays.
+#![tactic(auto)]
+
 ghost use Rattle.std.specs.Prelude.{◌≡◌, length};
 
 // The most bytes that a program takes.

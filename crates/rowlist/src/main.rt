@@ -1,4 +1,6 @@
 // Prints the rows of the data set on standard input, or the refusal.
+#![tactic(auto)]
+
 use room::input;
 
 fn main() {

@@ -1,4 +1,6 @@
 // The reading of a data set, printed to standard output: `rows N` and a line for each row, or the refusal.
+#![tactic(auto)]
+
 ghost use Rattle.std.specs.Prelude.{◌≡◌, ◌+◌, ◌*◌, ◌≤◌, length};
 ghost use Rattle.dataset.specs.Reading.{reading_of};
 ghost use Rattle.dataset.specs.Answer.{width, answer_of, buffer_of};

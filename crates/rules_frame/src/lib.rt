@@ -1,4 +1,6 @@
 // Rules 27 to 30, 37 and 39, which are asked at each frame, over a row table.
+#![tactic(auto)]
+
 ghost use Rattle.std.specs.Prelude.{◌≡◌, ◌+◌, ◌-◌, ◌≤◌, ◌<◌, ◌&&◌, eqb, length};
 ghost use Rattle.value.specs.Text.{values_of};
 ghost use Rattle.value.specs.Number.{all_decimals, all_widths};
@@ -15,7 +17,7 @@ use basics::{tags, vrs};
 use value::{Function, Num};
 
 // The part of a rule in the shared item: for rule 39 the grades of its two functional groups.
-#[derive(Drop)]
+#[derive(Clone, Copy)]
 pub struct SharedPart {
     pub ok: bool,
     pub relation: usize,

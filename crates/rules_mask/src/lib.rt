@@ -1,4 +1,6 @@
 // Rules 31 to 36: the mask items, which are those of the root's Mask Subtraction Sequence.
+#![tactic(auto)]
+
 ghost use Rattle.std.specs.Prelude.{◌≡◌, ◌+◌, ◌*◌, ◌%◌, ◌≤◌, ◌<◌, ◌&&◌, length, leb};
 ghost use Rattle.value.specs.Number.{us_values};
 ghost use Rattle.node.specs.Nodes.{nodes_of, members, inside};
@@ -16,7 +18,7 @@ use basics::{tags, vrs};
 use value::Num;
 
 // What a rule asks of each mask item. Two of the rules need the number of frames.
-#[derive(Drop)]
+#[derive(Clone, Copy)]
 enum Question {
     Operation,
     Range(usize),

@@ -1,4 +1,6 @@
 // Rules 1 to 26, about elements of the root, and rule 38, about the pixel data: whether each holds for a data set.
+#![tactic(auto)]
+
 ghost use Rattle.std.specs.Prelude.{◌≡◌, ◌*◌, ◌≤◌, ◌<◌, length, eqb, leb};
 ghost use Rattle.value.specs.Number.{integer_limit};
 ghost use Rattle.node.specs.Nodes.{nodes_of, root};

@@ -1,4 +1,6 @@
 // How far judging looks: the searches of document 02, each counted, and their sum, which `judge` reports for an accepted data set.
+#![tactic(auto)]
+
 ghost use Rattle.std.specs.Prelude.{◌≡◌, true, ◌+◌, ◌*◌, ◌^◌, ◌≤◌, ◌<◌, length, drop};
 ghost use Rattle.node.specs.Nodes.{nodes_of, members};
 ghost use Rattle.node.specs.Internal.{Table, Ascends};
@@ -92,21 +94,21 @@ const RELATION: [usize; 1] = [tags::PIXEL_INTENSITY_RELATIONSHIP];
 const TABLE: [usize; 3] = [tags::LUT_FUNCTION, tags::LUT_DESCRIPTOR, tags::LUT_DATA];
 
 // What the plain search finds, and how many rows it looks at.
-#[derive(Drop)]
+#[derive(Clone, Copy)]
 struct Looked {
     pub found: Num,
     pub count: usize,
 }
 
 // A group in the shared item: the rows looked at to find it, and those looked at in its items.
-#[derive(Drop)]
+#[derive(Clone, Copy)]
 struct SharedGroup {
     pub looked: usize,
     pub read: usize,
 }
 
 // The answer of `judge`, and the sum of its searches: 0 with every answer but code 0.
-#[derive(Drop)]
+#[derive(Clone, Copy)]
 pub struct Counted {
     pub answer: JudgeAnswer,
     pub searches: usize,

@@ -1,4 +1,6 @@
 // The sampling sheet: how often each grey level was drawn over frames a to b of an accepted object.
+#![tactic(auto)]
+
 ghost use Rattle.std.specs.Prelude.{◌≡◌, true, cond, ℕ, ◌+◌, ◌-◌, ◌*◌, ◌≤◌, ◌<◌, length, get_or, drop};
 ghost use Rattle.dataset.specs.Reading.{reading_of};
 ghost use Rattle.basics.specs.Fields.{Answers};
@@ -44,7 +46,7 @@ pub const NUMBERS: usize = 260;
 
 // The answer of `sheet`: done, with the number of rows; code 9, with the number of rows, rule and frame; code and offset of a
 // refusal; codes 7, 8, 19 and 10.
-#[derive(Drop)]
+#[derive(Clone, Copy)]
 pub enum SheetAnswer {
     Done(usize),
     Broken(usize, usize, usize),
@@ -56,7 +58,7 @@ pub enum SheetAnswer {
 }
 
 // 256 counts of levels, the number of native frames, the lowest and the highest level, and the sum of all levels.
-#[derive(Drop)]
+#[derive(Clone, Copy)]
 pub struct Numbers {
     pub counts: [u64; 256],
     pub natives: usize,
@@ -66,14 +68,14 @@ pub struct Numbers {
 }
 
 // Which frames a sheet is of: all, or those from one number to another.
-#[derive(Drop)]
+#[derive(Clone, Copy)]
 enum Span {
     All,
     From(usize, usize),
 }
 
 // An answer and the sheet that comes with it.
-#[derive(Drop)]
+#[derive(Clone, Copy)]
 pub struct Sampled {
     pub answer: SheetAnswer,
     pub sheet: Numbers,
@@ -263,7 +265,7 @@ fn same_window(a: Window, b: Window) -> bool
 }
 
 // The shades of the previous frame, and how many cells were computed from its window so far.
-#[derive(Drop)]
+#[derive(Clone, Copy)]
 struct Held {
     pub shades: Shades,
     pub spent: usize,
@@ -393,7 +395,7 @@ fn native_number(masking: Masking) -> usize
 }
 
 // What was counted so far, and the shades of the last frame.
-#[derive(Drop)]
+#[derive(Clone, Copy)]
 struct Counted {
     pub counts: [u64; 256],
     pub natives: usize,

@@ -1,6 +1,8 @@
 // Prints the sampling sheet of all frames of the data set on standard input: 256 counts of how often each grey level was drawn, the
 // number of native frames, the lowest and the highest level, and the sum of all levels, a number a line; or a refusal's code alone. More
 // than 65,536 bytes are refused with code 7; code 8 never occurs.
+#![tactic(auto)]
+
 ghost use Rattle.std.specs.Prelude.{◌≡◌, ◌≤◌, length};
 ghost use Rattle.sheet.specs.Answer.{fields_of};
 

@@ -1,4 +1,6 @@
 // The sheet of all frames of a data set of at most 65,536 bytes with its own row buffer, for the program that samples.
+#![tactic(auto)]
+
 ghost use Rattle.std.specs.Prelude.{◌≡◌, ◌≤◌, length};
 ghost use Rattle.sheet.specs.Answer.{fields_of};
 ghost use Rattle.sheet_small.specs.Printed.{whole_sheet};

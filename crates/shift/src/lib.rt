@@ -1,5 +1,7 @@
 // Shifts of the mask: two FL numbers, vertical then horizontal, counted in quarters of a pixel. A shift keeps its two floats, so it can
 // also hold a number that is not a whole quarter; the rules accept only short ones.
+#![tactic(auto)]
+
 ghost use Rattle.std.specs.Prelude.{◌≡◌, ◌+◌, ◌≤◌, false, length, from_bits};
 ghost use Rattle.std.specs.Float.{binary32};
 ghost use Rattle.std.specs.Float.Ieee.{lt};
@@ -11,7 +13,7 @@ use basics::u32_at;
 use value::{Num, Signed};
 
 // No shift, the mask item's two numbers, or the frame's own two.
-#[derive(Drop)]
+#[derive(Clone, Copy)]
 pub enum Shift {
     None,
     Item(f32, f32),
@@ -19,7 +21,7 @@ pub enum Shift {
 }
 
 // How far a shift moves the mask, in quarters.
-#[derive(Drop)]
+#[derive(Clone, Copy)]
 pub struct Moves {
     pub vertical: Signed,
     pub horizontal: Signed,

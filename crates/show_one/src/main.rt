@@ -1,5 +1,7 @@
 // Draws one frame of the data set on standard input. Its one argument is the frame's number. It writes the image to standard output as a
 // PGM, with a comment that says whether the frame is masked; or the refusal, in a line.
+#![tactic(auto)]
+
 ghost use Rattle.std.specs.Prelude.{◌*◌, ◌≤◌, length};
 
 use argument::FrameArgument;

@@ -1,4 +1,6 @@
 // Drawing a frame of a data set of at most 65,536 bytes with its own row buffer, for the programs that draw.
+#![tactic(auto)]
+
 ghost use Rattle.std.specs.Prelude.{◌≡◌, ◌*◌, ◌≤◌, length};
 ghost use Rattle.value.specs.Number.{number_or0};
 ghost use Rattle.node.specs.Nodes.{nodes_of};
@@ -11,14 +13,14 @@ use room::row_buffer;
 use value::Num;
 
 // The sides of a frame: its Columns and Rows.
-#[derive(Drop)]
+#[derive(Clone, Copy)]
 pub struct Sides {
     pub width: usize,
     pub height: usize,
 }
 
 // The answer of `show`, and the sides of the image; 0 and 0 if no frame was drawn.
-#[derive(Drop)]
+#[derive(Clone, Copy)]
 pub struct Shown {
     pub answer: ShowAnswer,
     pub sides: Sides,

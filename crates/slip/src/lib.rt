@@ -1,5 +1,7 @@
 // Verdict slips: 17 bytes that record a verdict with its row count. specs/ says what a slip is; `write_slip` and `read_slip` are the
 // public calls. Slips of version 1, which are still read, end before the row count.
+#![tactic(auto)]
+
 ghost use Rattle.std.specs.Prelude.{◌≡◌, ◌++◌, ◌≤◌, length, take, drop};
 ghost use Rattle.basics.specs.Bytes.{same_bytes, le_number};
 ghost use Rattle.basics.specs.Fields.{Answers};
@@ -36,14 +38,14 @@ const OLD_VERSION: usize = 1;
 const VERSION: usize = 2;
 
 // The answer of `read_slip`: the verdict, or a refusal's code.
-#[derive(Drop)]
+#[derive(Clone, Copy)]
 pub enum SlipAnswer {
     Read(Verdict),
     Refused(usize),
 }
 
 // The answer of `write_slip`: done, or a refusal's code.
-#[derive(Drop)]
+#[derive(Clone, Copy)]
 pub enum WriteAnswer {
     Written,
     Refused(usize),

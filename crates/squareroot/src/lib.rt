@@ -1,4 +1,6 @@
 // The square root derivation of source document 002, 14 bits to 8, scaled so that p stands for p × p / 4.
+#![tactic(auto)]
+
 ghost use Rattle.std.specs.Prelude.{◌≡◌};
 ghost use Rattle.squareroot.specs.SquareRoot.{root_level, root_entry};
 

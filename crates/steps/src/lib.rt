@@ -1,5 +1,7 @@
 // The drawing steps, up to what is needed before the samples are drawn. Each answer says what its step gives, or that the step lacks
 // something.
+#![tactic(auto)]
+
 ghost use Rattle.std.specs.Prelude.{◌≡◌, ◌/◌, ◌%◌, ◌≤◌, ◌<◌, cond, ◌&&◌, length, eqb, leb};
 ghost use Rattle.std.proofs.Math.Option.{some};
 ghost use Rattle.value.specs.declared.Num.TheVariants as num;
@@ -27,7 +29,7 @@ use value::{Function, Num, Signed};
 use window::Window;
 
 // The mask item that applies to a frame, or none.
-#[derive(Drop)]
+#[derive(Clone, Copy)]
 pub enum Applying {
     Item(usize),
     Nothing,
@@ -36,7 +38,7 @@ pub enum Applying {
 // ---- Answers
 
 // A number, that there is none, or that a step lacks something.
-#[derive(Drop)]
+#[derive(Clone, Copy)]
 pub enum Found {
     At(usize),
     Absent,
@@ -44,7 +46,7 @@ pub enum Found {
 }
 
 // A test, or that a step lacks something.
-#[derive(Drop)]
+#[derive(Clone, Copy)]
 pub enum Holds {
     Yes,
     No,
@@ -53,7 +55,7 @@ pub enum Holds {
 
 // What a mask item does with the frames it applies to: nothing, subtract the average of its mask frames, or subtract one frame; or a step
 // lacks something.
-#[derive(Drop)]
+#[derive(Clone, Copy)]
 pub enum Operation {
     Native,
     Average,
@@ -62,25 +64,25 @@ pub enum Operation {
 }
 
 // What a mask item says, the same for all frames: its operation, and which item of the shared shift group names its ID.
-#[derive(Drop)]
+#[derive(Clone, Copy)]
 pub struct Told {
     pub operation: Operation,
     pub shared: Found,
 }
 
-#[derive(Drop)]
+#[derive(Clone, Copy)]
 pub enum Shifts {
     Is(Shift),
     Lacks,
 }
 
-#[derive(Drop)]
+#[derive(Clone, Copy)]
 pub enum Sized {
     Is(Geometry),
     Lacks,
 }
 
-#[derive(Drop)]
+#[derive(Clone, Copy)]
 pub enum Windowed {
     Is(Window),
     Lacks,

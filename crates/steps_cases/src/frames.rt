@@ -14,7 +14,7 @@ use steps::{Applying, Holds, Operation, Sized};
 use value::Num;
 
 // The mask item that applies to a frame, that none does, or that step 2 lacks something.
-#[derive(Drop)]
+#[derive(Clone, Copy)]
 pub enum Applies {
     Item(usize),
     Nothing,

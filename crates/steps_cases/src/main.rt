@@ -1,5 +1,7 @@
 // Prints what the drawing steps answer for each small case on standard input (crates/cases says what a case is). tests/make_steps_cases
 // writes the cases, most of which are not accepted, and, by another program, the output that is expected.
+#![tactic(auto)]
+
 mod answers;
 mod frames;
 

@@ -1,4 +1,6 @@
 // The forms of values: text split and trimmed, words, and numbers. Each function takes one element's value and goes along it once.
+#![tactic(auto)]
+
 ghost use Rattle.std.specs.Prelude.{◌≡◌, ◌+◌, ◌-◌, ◌*◌, ◌^◌, ◌≤◌, ◌<◌, length, drop, get_or};
 ghost use Rattle.value.specs.Text.{values_of, value_of, is_single, trim_start, trim_end, trimmed};
 ghost use Rattle.value.specs.Words.{word_at, is_word, is_uid, function_of, is_function};
@@ -11,14 +13,14 @@ ghost use Rattle.value.specs.Internal.{Below, SizeBelow, DigitsRead, parts_at, i
 use basics::{same_bytes, u16_at, wide};
 
 // A number, or none.
-#[derive(Drop)]
+#[derive(Clone, Copy)]
 pub enum Num {
     Is(usize),
     None,
 }
 
 // A number with a sign, or none.
-#[derive(Drop)]
+#[derive(Clone, Copy)]
 pub enum Signed {
     Plus(usize),
     Minus(usize),
@@ -26,7 +28,7 @@ pub enum Signed {
 }
 
 // The function of a window, or none of those that are drawn.
-#[derive(Drop)]
+#[derive(Clone, Copy)]
 pub enum Function {
     Linear,
     Exact,
@@ -34,14 +36,14 @@ pub enum Function {
 }
 
 // What is asked of a value of a DS: that it is a number, or one of at least the given number of units.
-#[derive(Drop)]
+#[derive(Clone, Copy)]
 enum Asked {
     Number,
     AtLeast(usize),
 }
 
 // Digits that were read: their number, and how many there are.
-#[derive(Drop)]
+#[derive(Clone, Copy)]
 struct Run {
     number: usize,
     count: usize,

@@ -1,4 +1,6 @@
 // Verdicts: the code, rule, frame, offset and row count of a judge's answer.
+#![tactic(auto)]
+
 ghost use Rattle.std.specs.Prelude.{◌≡◌};
 ghost use Rattle.verdict.specs.Verdict.{per_frame, frame_fits, alone, possible_plain, possible_refusal, possible_breach, fields_fit};
 ghost use Rattle.verdict.specs.Verdict.{count_fits, rows_fit, possible};
@@ -10,14 +12,14 @@ pub const LAST_RULE: usize = 39;
 const LAST_OFFSET: usize = basics::LARGEST;
 
 // A row count, known or not: a slip of version 1 does not record it.
-#[derive(Drop)]
+#[derive(Clone, Copy)]
 pub enum RowCount {
     Known(usize),
     NotKnown,
 }
 
 // The numbers are wide enough to hold verdicts that are not possible.
-#[derive(Drop)]
+#[derive(Clone, Copy)]
 pub struct Verdict {
     pub code: usize,
     pub rule: usize,

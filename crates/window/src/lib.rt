@@ -1,4 +1,6 @@
 // The window of a frame and its levels.
+#![tactic(auto)]
+
 ghost use Rattle.std.specs.Prelude.{◌≡◌, ◌-◌, ◌*◌, ◌^◌, ◌≤◌, ◌<◌, pos, ◌-ℤ◌};
 ghost use Rattle.std.proofs.Math.Option.{some};
 ghost use Rattle.value.specs.Number.{unit, size_limit, number_or0};
@@ -8,7 +10,7 @@ ghost use Rattle.window.specs.Internal.{Drawable, above, below, ramp_of, shade_p
 use value::{Function, Signed};
 
 // Centre and width, in units of a DS number, and the function.
-#[derive(Drop)]
+#[derive(Clone, Copy)]
 pub struct Window {
     pub center: Signed,
     pub width: Signed,

@@ -1,5 +1,7 @@
 // Writes the canonical form of the data set on standard input to standard output. A refusal goes to standard error, and so does the
 // message that the input is too long.
+#![tactic(auto)]
+
 ghost use Rattle.std.specs.Prelude.{◌≡◌, ◌*◌, ◌≤◌, length};
 ghost use Rattle.dataset.specs.Answer.{width};
 ghost use Rattle.canonical.specs.Answer.{canonical_of, target_of};

@@ -1,5 +1,7 @@
 // Writes the slip of the verdict on the data set on standard input to standard output: 17 bytes. For an input that is too long there is
 // only a message on standard error.
+#![tactic(auto)]
+
 ghost use Rattle.std.specs.Prelude.{◌≡◌, true, ◌≤◌, length};
 ghost use Rattle.verdict.specs.Verdict.{writable};
 ghost use Rattle.slip.specs.Slip.{slip_of};

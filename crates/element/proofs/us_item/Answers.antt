@@ -1,0 +1,8 @@
+-- What the search finds is read.
+use Rattle.element.proofs.us_item.Goals as goal
+
+pub returns : goal.returns
+returns c = record {
+  value = rw (← c.find_vr_item.ensures.value) c.us_at.ensures.value;
+  below = c.us_at.ensures.below;
+}
