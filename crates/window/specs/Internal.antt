@@ -1,6 +1,5 @@
 -- What contracts need beside the definition of a level: the windows that are drawn, and a table of shades.
 use Rattle.std.specs.Prelude.{ℕ, ◌+◌, ◌-◌, ◌*◌, ◌/◌, ◌^◌, ◌<◌, ◌≡◌, Bool, true, cond, List, ltb, length, get_or, pos, ◌-ℤ◌}
-use Rattle.value.specs.declared.Num.TheVariants.{None}
 use Rattle.value.specs.declared.Signed.{Signed}
 use Rattle.value.specs.declared.Signed.TheVariants as signed
 use Rattle.value.specs.Words.{is_function}
