@@ -1,0 +1,26 @@
+-- A sequence has items just where the next node does not follow at once, and their grade is the group's.
+use borrow.Author.Tests.{eq-eqb, ne_eqb}
+use Rattle.rules.specs.Intensity.{is_lut_group, has_linear}
+use Rattle.element.proofs.Every.{members-some, members-none}
+use Rattle.intensity.specs.Internal.{table_of, luts_of}
+use Rattle.intensity.proofs.table_of.Goals as goal
+
+pub returns-then-from-to : goal.returns-then-from-to
+unfolding table_of is_lut_group has_linear luts_of
+returns-then-from-to c =
+    rw (
+      ← c.vr.ensures,
+      eq-eqb _ _ c.if-vr-eq-SQ.true,
+      ← c.next-to.ensures.0,
+      members-some _ _ _ c.if-from-to.true,
+    ) c.luts_of.ensures
+
+pub returns-else-from-to : goal.returns-else-from-to
+unfolding table_of is_lut_group
+returns-else-from-to c =
+    rw (← c.vr.ensures, eq-eqb _ _ c.if-vr-eq-SQ.true, ← c.next-to.ensures.0, members-none _ _ _ c.if-from-to.false)
+
+pub returns-else-vr-eq-SQ : goal.returns-else-vr-eq-SQ
+unfolding table_of is_lut_group
+returns-else-vr-eq-SQ c =
+    rw (← c.vr.ensures, ne_eqb _ _ c.if-vr-eq-SQ.false)
