@@ -56,5 +56,5 @@ pub rule38-at : (ns : List Node) (f : ℕ) → rule38 ns ≡ rule_at ns 38 f
 unfolding rule_at rule_list
 rule38-at ns f = refl
 
-pub rule38-holds : {r : Bool} (ns : List Node) → r ≡ rule38 ns → (r ≡ rule38 ns) × (r ≡ rule_at ns 38 0)
-rule38-holds ns e = (e, e ∙ rule38-at ns 0)
+pub rule38-holds : {r : Bool} (ns : List Node) → r ≡ rule38 ns → record { value : r ≡ rule38 ns; value_2 : r ≡ rule_at ns 38 0 }
+rule38-holds ns e = record { value = e; value_2 = e ∙ rule38-at ns 0 }

@@ -1,6 +1,5 @@
 -- The tests in turn are those of the definition.
 use Rattle.rules.specs.Root.{has_radiation}
-use borrow.Author.Rules.{rules}
 use Rattle.rules_root.proofs.has_radiation.Goals as goal
 
 -- LOST slice-aggregate-is-cs-root : tie.Need-slice-aggregate-is-cs-root

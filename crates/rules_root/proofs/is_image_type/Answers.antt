@@ -2,7 +2,6 @@
 use mathlib.Core.Bool.{and-true, and-false}
 use borrow.Author.Tests.{le-leb, lt-leb}
 use Rattle.rules.specs.Root.{is_image_type}
-use borrow.Author.Rules.{rules}
 use Rattle.rules_root.proofs.is_image_type.Goals as goal
 
 -- LOST slice-aggregate-is-word-at : tie.Need-slice-aggregate-is-word-at

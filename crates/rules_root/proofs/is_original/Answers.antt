@@ -1,6 +1,5 @@
 -- The test of the first value is the definition.
 use Rattle.rules.specs.Root.{is_original}
-use borrow.Author.Rules.{rules}
 use Rattle.rules_root.proofs.is_original.Goals as goal
 
 -- LOST slice-aggregate-image-type-is : tie.Need-slice-aggregate-image-type-is

@@ -1,6 +1,5 @@
 -- The two tests in turn are those of the definition.
 use Rattle.rules.specs.Root.{is_other_plane}
-use borrow.Author.Rules.{rules}
 use Rattle.rules_root.proofs.is_other_plane.Goals as goal
 
 -- LOST slice-aggregate-is-word : tie.Need-slice-aggregate-is-word

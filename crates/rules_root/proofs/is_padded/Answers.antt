@@ -3,7 +3,6 @@
 use Prim.Native.Nat.{◌*◌}
 use native.Mathlib.Omega.{arith}
 use Rattle.rules_root.proofs.Laws as laws
-use borrow.Author.Rules.{rules}
 use Rattle.rules_root.proofs.is_padded.Goals as goal
 
 -- LOST div-if2 : tie.Need-nonzero-div-if2

@@ -1,6 +1,5 @@
 -- The test of a UI is the definition.
 use Rattle.rules.specs.Root.{is_xa}
-use borrow.Author.Rules.{rules}
 use Rattle.rules_root.proofs.is_xa.Goals as goal
 
 -- LOST slice-aggregate-is-ui-root : tie.Need-slice-aggregate-is-ui-root

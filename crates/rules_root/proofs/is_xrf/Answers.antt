@@ -1,6 +1,5 @@
 -- The test of a UI is the definition.
 use Rattle.rules.specs.Root.{is_xrf}
-use borrow.Author.Rules.{rules}
 use Rattle.rules_root.proofs.is_xrf.Goals as goal
 
 -- LOST slice-aggregate-is-ui-root : tie.Need-slice-aggregate-is-ui-root

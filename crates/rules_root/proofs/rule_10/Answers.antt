@@ -1,6 +1,5 @@
 -- The two tests in turn are those of the definition.
 use Rattle.rules.specs.Root.{rule10}
-use borrow.Author.Rules.{rules}
 use Rattle.rules_root.proofs.rule_10.Goals as goal
 
 -- LOST slice-aggregate-photometric-is : tie.Need-slice-aggregate-photometric-is

@@ -1,6 +1,5 @@
 -- The three tests in turn are those of the definition.
 use Rattle.rules.specs.Root.{rule16}
-use borrow.Author.Rules.{rules}
 use Rattle.rules_root.proofs.rule_16.Goals as goal
 
 -- LOST slice-aggregate-is-cs-root : tie.Need-slice-aggregate-is-cs-root

@@ -1,6 +1,5 @@
 -- The test of a CS is the definition.
 use Rattle.rules.specs.Root.{rule17}
-use borrow.Author.Rules.{rules}
 use Rattle.rules_root.proofs.rule_17.Goals as goal
 
 -- LOST slice-aggregate-is-cs-root : tie.Need-slice-aggregate-is-cs-root

@@ -1,6 +1,5 @@
 -- The two tests in turn are those of the definition.
 use Rattle.rules.specs.Root.{rule18}
-use borrow.Author.Rules.{rules}
 use Rattle.rules_root.proofs.rule_18.Goals as goal
 
 -- LOST slice-aggregate-lossy-is : tie.Need-slice-aggregate-lossy-is

@@ -1,6 +1,5 @@
 -- The two arms are those of the definition, each with its two tests in turn.
 use Rattle.rules.specs.Root.{rule19}
-use borrow.Author.Rules.{rules}
 use Rattle.rules_root.proofs.rule_19.Goals as goal
 
 -- LOST slice-aggregate-lossy-is : tie.Need-slice-aggregate-lossy-is

@@ -1,6 +1,5 @@
 -- The SOP class picks the arm, and in each arm the test of the modality is that of the definition.
 use Rattle.rules.specs.Root.{rule2}
-use borrow.Author.Rules.{rules}
 use Rattle.rules_root.proofs.rule_2.Goals as goal
 
 -- LOST slice-aggregate-is-cs-root : tie.Need-slice-aggregate-is-cs-root

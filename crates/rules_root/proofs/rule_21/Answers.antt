@@ -1,6 +1,5 @@
 -- The photometric word picks the arm, and in each arm the test of the shape is that of the definition.
 use Rattle.rules.specs.Root.{rule21}
-use borrow.Author.Rules.{rules}
 use Rattle.rules_root.proofs.rule_21.Goals as goal
 
 -- LOST slice-aggregate-photometric-is : tie.Need-slice-aggregate-photometric-is

@@ -1,6 +1,5 @@
 -- The arms are those of the definition.
 use Rattle.rules.specs.Root.{rule24}
-use borrow.Author.Rules.{rules}
 use Rattle.rules_root.proofs.rule_24.Goals as goal
 
 -- LOST slice-aggregate-is-cs-root : tie.Need-slice-aggregate-is-cs-root

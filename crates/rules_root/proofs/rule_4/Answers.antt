@@ -1,6 +1,5 @@
 -- The three tests in turn are those of the definition.
 use Rattle.rules.specs.Root.{rule4}
-use borrow.Author.Rules.{rules}
 use Rattle.rules_root.proofs.rule_4.Goals as goal
 
 -- LOST slice-aggregate-planes-are : tie.Need-slice-aggregate-planes-are

@@ -1,6 +1,5 @@
 -- With UNDEFINED planes the test of Image Type is that of the definition; otherwise the rule asks nothing.
 use Rattle.rules.specs.Root.{rule5}
-use borrow.Author.Rules.{rules}
 use Rattle.rules_root.proofs.rule_5.Goals as goal
 
 -- LOST slice-aggregate-planes-are : tie.Need-slice-aggregate-planes-are

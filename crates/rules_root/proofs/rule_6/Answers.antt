@@ -1,6 +1,5 @@
 -- The planes pick the arm: the element is absent with UNDEFINED, and otherwise present and not empty, as in the definition.
 use Rattle.rules.specs.Root.{rule6}
-use borrow.Author.Rules.{rules}
 use Rattle.rules_root.proofs.rule_6.Goals as goal
 
 -- LOST slice-aggregate-planes-are : tie.Need-slice-aggregate-planes-are

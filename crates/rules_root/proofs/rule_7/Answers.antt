@@ -1,7 +1,6 @@
 -- The two arms are those of the definition, the first by the element that was found, or was not.
 use Rattle.node.proofs.Laws as node_laws
 use Rattle.rules.specs.Root.{rule7}
-use borrow.Author.Rules.{rules}
 use Rattle.rules_root.proofs.rule_7.Goals as goal
 
 -- LOST slice-aggregate-planes-are : tie.Need-slice-aggregate-planes-are
