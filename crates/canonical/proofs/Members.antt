@@ -104,16 +104,16 @@ pub going-first : {ns : List Node} {target : List ℕ} {from to start : ℕ} →
     → Going ns target target from start to from start
 going-first {ns} {target} {from} {to} {start} f = record { low = omega arith; high = f.low; wrote = wrote_none ns target from start }
 
-next_row_lem : (s : List ℕ) (k : ℕ) → k < length (nodes_of s) → next_node (nodes_of s) k ≡ next_row (rows_of s) k
-next_row_lem s k h = ap (λ (n : Node). k + 1 + n.descendants) (node-is s (flat (rows_of s)) (table s (flat (rows_of s)) refl) k h)
+next_row_is : (s : List ℕ) (k : ℕ) → k < length (nodes_of s) → next_node (nodes_of s) k ≡ next_row (rows_of s) k
+next_row_is s k h = ap (λ (n : Node). k + 1 + n.descendants) (node-is s (flat (rows_of s)) (table s (flat (rows_of s)) refl) k h)
 
 -- What is below a node ends within what is below the node that it is in.
 nested : (s : List ℕ) (i k : ℕ) → i < length (nodes_of s) → i < k → k < next_node (nodes_of s) i
     → next_node (nodes_of s) k ≤ next_node (nodes_of s) i
 nested s i k h l m =
     let w : next_node (nodes_of s) i ≤ length (nodes_of s) = next-within s (flat (rows_of s)) (table s (flat (rows_of s)) refl) i h in
-    let a = next_row_lem s i h in
-    let b = next_row_lem s k (omega arith) in
+    let a = next_row_is s i h in
+    let b = next_row_is s k (omega arith) in
     omega (arith, row-nested s i (omega (arith, nodes-count s)) k l (omega arith))
 
 module _ (s : List ℕ) {target₀ target : List ℕ} {from start to i at : ℕ} (f : Fitting (nodes_of s) target₀ from to start)

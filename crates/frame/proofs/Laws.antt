@@ -11,9 +11,9 @@ use Rattle.frame.specs.declared.FrameView.{FrameView}
 use Rattle.frame.specs.View.{Part, IsView, frame_size}
 use Rattle.frame.specs.Internal.{Fits}
 
-last_frame_lem : (f s : ℕ) → 1 ≤ f → f * s ≡ (f - 1) * s + s
-last_frame_lem zero s h = absurd (omega arith)
-last_frame_lem (suc m) s h =
+last_frame : (f s : ℕ) → 1 ≤ f → f * s ≡ (f - 1) * s + s
+last_frame zero s h = absurd (omega arith)
+last_frame (suc m) s h =
     let e : suc m - 1 ≡ m = omega arith in
     rw e (omega arith)
 
@@ -23,7 +23,7 @@ pub frame-fits : (rows columns width f l : ℕ) → Fits rows columns width f l
     × ((frame_size rows columns width ≤ l) × (rows * columns ≤ l))
 frame-fits rows columns width f l h =
     let e : f * frame_size rows columns width
-    ≡ (f - 1) * frame_size rows columns width + frame_size rows columns width = last_frame_lem f (frame_size rows columns width) h.first in
+    ≡ (f - 1) * frame_size rows columns width + frame_size rows columns width = last_frame f (frame_size rows columns width) h.first in
     let a : f * frame_size rows columns width ≤ l = h.inside in
     let b : rows * columns ≤ rows * columns * width = le-mul_of_pos_right (rows * columns) h.some in
     (omega arith, (omega arith, omega arith))
@@ -66,14 +66,14 @@ line-fits s rows columns width f row v h l =
     let a : (row + 1) * (columns * width) ≤ rows * (columns * width) = mul-le-mul_right (columns * width) (omega arith) in
     let b : (row + 1) * (columns * width) ≡ row * (columns * width) + columns * width = omega arith in
     let e : rows * (columns * width) ≡ rows * columns * width = sym (mul_assoc rows columns width) in
-    rw h.columns-are (omega arith)
+    rw h.columns_are (omega arith)
 
 -- A line of a frame is a part of the pixel bytes.
 pub line-part : (s : Bor (List ℕ)) (rows columns width f row : ℕ) (v : FrameView) (t : Bor (List ℕ)) → IsView s rows columns width f v
     → Part v.samples (row * (v.columns * width)) (v.columns * width) t
     → Part s ((f - 1) * frame_size rows columns width + row * (columns * width)) (columns * width) t
 line-part s rows columns width f row v t h p =
-    part-part s _ _ v.samples _ _ t h.part (subst (λ (c : ℕ). Part v.samples (row * (c * width)) (c * width) t) h.columns-are p)
+    part-part s _ _ v.samples _ _ t h.part (subst (λ (c : ℕ). Part v.samples (row * (c * width)) (c * width) t) h.columns_are p)
 
 -- A range that starts at a and has n places, where these are what a definition says.
 pub part-range : (s r : Bor (List ℕ)) (a n at size : ℕ) → a ≡ at → n ≡ size → r.ref_ptr.0 ≡ s.ref_ptr.0 → r.ref_ptr.1 ≡ s.ref_ptr.1 + a

@@ -22,7 +22,7 @@ frame_size rows columns width = rows * columns * width
 pub record IsView (pixels : Bor (List ℕ)) (rows columns width f : ℕ) (v : FrameView) : Type 0 where
   pub part : Part pixels ((f - 1) * frame_size rows columns width) (frame_size rows columns width) v.samples
   pub rows_are : v.rows ≡ rows
-  pub columns-are : v.columns ≡ columns
+  pub columns_are : v.columns ≡ columns
 
 -- The same in the data set as lent, where p is the row of the pixel bytes: frame f starts f - 1 frames after the value's
 -- offset, is as long as a frame, and holds the cells that step 1 reads as those of frame f.
