@@ -1,0 +1,15 @@
+-- 0 and 1 stand for the answers without a node, and any other number for the node two below it.
+use borrow.Author.Tests.{eq-eqb, ne_eqb}
+use Rattle.ranges.proofs.found_in.Goals as goal
+
+pub returns-then-x-eq0 : goal.returns-then-x-eq0
+returns-then-x-eq0 c =
+    rw (eq-eqb _ _ c.if-x-eq0.true)
+
+pub returns-then-x-eq1 : goal.returns-then-x-eq1
+returns-then-x-eq1 c =
+    rw (ne_eqb _ _ c.if-x-eq0.false, eq-eqb _ _ c.if-x-eq1.true)
+
+pub returns-else-x-eq1 : goal.returns-else-x-eq1
+returns-else-x-eq1 c =
+    rw (ne_eqb _ _ c.if-x-eq0.false, ne_eqb _ _ c.if-x-eq1.false)
