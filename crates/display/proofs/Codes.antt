@@ -39,7 +39,7 @@ was-frame s f e =
 pub record Keeps (of : JudgeAnswer → ℕ) : Type 0 where
   pub broken : (n rule frame : ℕ) → of (judged.Broken n rule frame) ≡ 9
   pub refused : (code offset : ℕ) → of (judged.Refused code offset) ≡ code
-  pub too_large_lem : of judged.TooLarge ≡ 7
+  pub too_large : of judged.TooLarge ≡ 7
   pub no_room : of judged.NoRoom ≡ 8
 
 module _ (s buffer : List ℕ) where
