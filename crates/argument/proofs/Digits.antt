@@ -7,19 +7,16 @@ use native.Mathlib.Omega.{arith}
 use lib.ListN.{length, drop, get_or}
 use lib.Seq.{drop-length}
 use borrow.Author.Tests.{le-leb, lt-leb}
-use types.Run.{OneOf, miss}
-use denote.Enum.Declared.{tag_of}
 use Rattle.basics.proofs.Lists.{from_next}
 use Rattle.argument.specs.declared.Decimal.{Decimal}
 use Rattle.argument.specs.declared.Decimal.TheVariants.{Number, TooLarge, NotNumber}
-use Rattle.argument.specs.contracts.Decimal.{the_type}
 use Rattle.argument.specs.Digits.{more_of, with_byte, with_bytes, argument_of}
 
 -- ---- A byte more
 
-pub no_number : (d : Decimal) (c : ℕ) → OneOf (1 ∷ 2 ∷ []) (tag_of the_type d) → d ≡ with_byte d c
+pub no_number : (d : Decimal) (c : ℕ) → ((n : ℕ) → d ≡ Number n → ⊥) → d ≡ with_byte d c
 unfolding with_byte
-no_number (Number n) c h = absurd (miss (1 ∷ 2 ∷ []) 0 tt h)
+no_number (Number n) c h = absurd (h n refl)
 no_number TooLarge c h = refl
 no_number NotNumber c h = refl
 

@@ -4,6 +4,13 @@
 ghost use Rattle.std.specs.Prelude.{◌≡◌, ◌<◌};
 ghost use Rattle.argument.specs.Digits.{more_of, with_byte, argument_of};
 
+use std::env::{Env, FillError};
+use std::io;
+use std::io::Write;
+
+// The most bytes of an argument that is read: the largest number has as many digits.
+const DIGITS: usize = 20;
+
 #[derive(Clone, Copy)]
 pub enum Decimal {
     Number(u64),
@@ -59,27 +66,39 @@ pub enum FrameArgument {
     None,
 }
 
-// The program's one argument, a frame's number. If it is none, a line on standard output says what is wanted.
-pub fn read_frame() -> FrameArgument {
-    if os::arg_count() != 2 {
-        io::write_all(1, b"frame: one number is wanted\n");
-        return FrameArgument::None;
+fn is_present(answer: Result<usize, FillError>) -> bool {
+    match answer {
+        Err(FillError::NotPresent) => false,
+        _ => true,
     }
-    let mut text = [0u8; 20];
-    let n = os::arg(1, &mut text);
-    if os::errno() != 0 {
-        io::write_all(1, b"frame: at most 20 digits\n");
-        return FrameArgument::None;
+}
+
+// Whether the program has exactly one argument after its own name, however long.
+fn is_single(rt: &impl Env) -> bool {
+    let mut text = [0u8; DIGITS];
+    is_present(rt.arg(1, &mut text)) && !is_present(rt.arg(2, &mut text))
+}
+
+// The program's one argument, a frame's number. If it is none, a line is printed to `to`, which says what is wanted.
+pub fn read_frame<W: Write>(rt: &impl Env, to: &mut W) -> io::Result<FrameArgument> {
+    let mut text = [0u8; DIGITS];
+    if !is_single(rt) {
+        to.write_all(b"frame: one number is wanted\n")?;
+        return Ok(FrameArgument::None);
     }
+    let Ok(n) = rt.arg(1, &mut text) else {
+        to.write_all(b"frame: at most 20 digits\n")?;
+        return Ok(FrameArgument::None);
+    };
     match read_decimal(&text[..n]) {
-        Decimal::Number(frame) => FrameArgument::Number(frame),
+        Decimal::Number(frame) => Ok(FrameArgument::Number(frame)),
         Decimal::TooLarge => {
-            io::write_all(1, b"frame: at most 18446744073709551615\n");
-            FrameArgument::None
+            to.write_all(b"frame: at most 18446744073709551615\n")?;
+            Ok(FrameArgument::None)
         }
         Decimal::NotNumber => {
-            io::write_all(1, b"frame: a number is wanted\n");
-            FrameArgument::None
+            to.write_all(b"frame: a number is wanted\n")?;
+            Ok(FrameArgument::None)
         }
     }
 }

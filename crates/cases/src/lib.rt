@@ -2,9 +2,12 @@
 // its bytes.
 #![tactic(auto)]
 
-ghost use Rattle.std.specs.Prelude.{◌≤◌, length};
+ghost use Rattle.std.specs.Prelude.{◌≤◌, ◌<◌, OnOk, codes, length};
+ghost use Rattle.std.specs.Io.KnownBytes.{Appends, Keeps};
 
 use basics::u16_at;
+use std::io;
+use std::io::Write;
 
 // Where the bytes of a case start and end.
 #[derive(Clone, Copy)]
@@ -34,8 +37,12 @@ pub fn case_at(cases: &[u8], at: usize) -> Case
 }
 
 // Says so where bytes are left after the last whole case.
-pub fn print_rest(cases: &[u8], at: usize) {
+pub fn print_rest<W: Write>(to: &mut W, cases: &[u8], at: usize) -> io::Result<()>
+    ensures rest { at < length cases.now → OnOk result (Appends (W.contents to.old) (W.contents to.new) (codes "the last case is cut short\n")) }
+    ensures no_rest { length cases.now ≤ at → OnOk result (Keeps (W.contents to.old) (W.contents to.new)) }
+{
     if at < cases.len() {
-        io::write_all(1, b"the last case is cut short\n");
+        to.write_all(b"the last case is cut short\n")?;
     }
+    Ok(())
 }

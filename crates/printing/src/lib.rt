@@ -1,30 +1,44 @@
-// Lines that several programs print. Each goes to the descriptor `to`: 1 is standard output, 2 standard error.
+// Lines that several programs print, each to the writer `to`: standard output, or standard error.
 #![tactic(auto)]
 
+ghost use Rattle.std.specs.Prelude.{OnOk};
+ghost use Rattle.std.specs.Io.KnownBytes.{Appends};
+ghost use Rattle.printing.specs.Lines.{field, code_line, broken_line, unread_line};
+
+use std::io;
+use std::io::Write;
+
 // A name and its number.
-pub fn print_field(to: i32, name: &[u8], n: usize) {
-    io::write_all(to, name);
-    io::write_all(to, b" ");
-    io::print_decimal(to, n as u64);
+pub fn print_field<W: Write>(to: &mut W, name: &[u8], n: usize) -> io::Result<()>
+    ensures { OnOk result (Appends (W.contents to.old) (W.contents to.new) (field name.now n)) }
+{
+    to.write_all(name)?;
+    write!(to, " {n}")
 }
 
 // A code alone.
-pub fn print_code(to: i32, code: usize) {
-    print_field(to, b"code", code);
-    io::write_all(to, b"\n");
+pub fn print_code<W: Write>(to: &mut W, code: usize) -> io::Result<()>
+    ensures { OnOk result (Appends (W.contents to.old) (W.contents to.new) (code_line code)) }
+{
+    print_field(to, b"code", code)?;
+    to.write_all(b"\n")
 }
 
 // Code 9, with its rule, its frame and the number of rows.
-pub fn print_broken(to: i32, rows: usize, rule: usize, frame: usize) {
-    print_field(to, b"code 9 rule", rule);
-    print_field(to, b" frame", frame);
-    print_field(to, b" rows", rows);
-    io::write_all(to, b"\n");
+pub fn print_broken<W: Write>(to: &mut W, rows: usize, rule: usize, frame: usize) -> io::Result<()>
+    ensures { OnOk result (Appends (W.contents to.old) (W.contents to.new) (broken_line rows rule frame)) }
+{
+    print_field(to, b"code 9 rule", rule)?;
+    print_field(to, b" frame", frame)?;
+    print_field(to, b" rows", rows)?;
+    to.write_all(b"\n")
 }
 
 // The code of a data set that does not read, and the offset.
-pub fn print_unread(to: i32, code: usize, offset: usize) {
-    print_field(to, b"code", code);
-    print_field(to, b" place", offset);
-    io::write_all(to, b"\n");
+pub fn print_unread<W: Write>(to: &mut W, code: usize, offset: usize) -> io::Result<()>
+    ensures { OnOk result (Appends (W.contents to.old) (W.contents to.new) (unread_line code offset)) }
+{
+    print_field(to, b"code", code)?;
+    print_field(to, b" place", offset)?;
+    to.write_all(b"\n")
 }

@@ -3,81 +3,80 @@
 
 use printing::print_field;
 use slip::SlipAnswer;
+use std::io;
+use std::io::Write;
 use verdict::{RowCount, Verdict};
 
-fn print_words(words: &[u8]) {
-    io::write_all(1, words);
-}
-
 // Ends the line of numbers.
-fn print_rows(rows: RowCount) {
+fn print_rows<W: Write>(to: &mut W, rows: RowCount) -> io::Result<()> {
     match rows {
-        RowCount::Known(n) => print_field(1, b" rows", n),
-        RowCount::NotKnown => print_words(b" rows not known"),
+        RowCount::Known(n) => print_field(to, b" rows", n)?,
+        RowCount::NotKnown => to.write_all(b" rows not known")?,
     }
-    io::write_all(1, b"\n");
+    to.write_all(b"\n")
 }
 
-fn print_breach(v: Verdict) {
+fn print_breach<W: Write>(to: &mut W, v: Verdict) -> io::Result<()> {
     let rows = v.rows;
-    print_field(1, b"code", v.code);
-    print_field(1, b" rule", v.rule);
-    print_field(1, b" frame", v.frame);
-    print_rows(rows);
-    print_field(1, b"a rule is broken: rule", v.rule);
+    print_field(to, b"code", v.code)?;
+    print_field(to, b" rule", v.rule)?;
+    print_field(to, b" frame", v.frame)?;
+    print_rows(to, rows)?;
+    print_field(to, b"a rule is broken: rule", v.rule)?;
     if 0 < v.frame {
-        print_field(1, b" at frame", v.frame);
+        print_field(to, b" at frame", v.frame)?;
     }
-    io::write_all(1, b"\n");
+    to.write_all(b"\n")
 }
 
-fn print_unread(v: Verdict) {
+fn print_unread<W: Write>(to: &mut W, v: Verdict) -> io::Result<()> {
     let rows = v.rows;
-    print_field(1, b"code", v.code);
-    print_field(1, b" place", v.offset);
-    print_rows(rows);
-    print_field(1, b"the data set could not be read: code", v.code);
-    print_field(1, b" at byte", v.offset);
-    io::write_all(1, b"\n");
+    print_field(to, b"code", v.code)?;
+    print_field(to, b" place", v.offset)?;
+    print_rows(to, rows)?;
+    print_field(to, b"the data set could not be read: code", v.code)?;
+    print_field(to, b" at byte", v.offset)?;
+    to.write_all(b"\n")
 }
 
-fn print_alone(v: Verdict) {
+fn print_alone<W: Write>(to: &mut W, v: Verdict) -> io::Result<()> {
     let rows = v.rows;
-    print_field(1, b"code", v.code);
-    print_rows(rows);
+    print_field(to, b"code", v.code)?;
+    print_rows(to, rows)?;
     let code = v.code;
     match code {
-        0 => print_words(b"accepted\n"),
-        7 => print_words(b"the data set is too large\n"),
-        _ => print_words(b"too little room for the rows\n"),
+        0 => to.write_all(b"accepted\n"),
+        7 => to.write_all(b"the data set is too large\n"),
+        _ => to.write_all(b"too little room for the rows\n"),
     }
 }
 
-fn print_verdict(v: Verdict) {
+fn print_verdict<W: Write>(to: &mut W, v: Verdict) -> io::Result<()> {
     let code = v.code;
     match code {
-        0 => print_alone(v),
-        7 | 8 => print_alone(v),
-        9 => print_breach(v),
-        _ => print_unread(v),
+        0 => print_alone(to, v),
+        7 | 8 => print_alone(to, v),
+        9 => print_breach(to, v),
+        _ => print_unread(to, v),
     }
 }
 
-fn print_refusal(code: usize) {
-    print_field(1, b"refused: code", code);
+fn print_refusal<W: Write>(to: &mut W, code: usize) -> io::Result<()> {
+    print_field(to, b"refused: code", code)?;
     match code {
-        12 => print_words(b"\nnot a slip: wrong length or mark\n"),
-        13 => print_words(b"\nunknown slip version\n"),
-        _ => print_words(b"\nimpossible fields\n"),
+        12 => to.write_all(b"\nnot a slip: wrong length or mark\n"),
+        13 => to.write_all(b"\nunknown slip version\n"),
+        _ => to.write_all(b"\nimpossible fields\n"),
     }
 }
 
-fn main() {
+fn main(rt: HostRuntime) -> io::Result<()> {
     // A slip has at most 17 bytes; the rest of the array serves to detect a longer input.
     let mut buffer = [0u8; 64];
-    let n = io::read_full(0, &mut buffer);
+    let n = room::read_full(&mut rt.stdin(), &mut buffer)?;
+    let mut to = rt.stdout();
     match slip::read_slip(&buffer[..n]) {
-        SlipAnswer::Read(v) => print_verdict(v),
-        SlipAnswer::Refused(code) => print_refusal(code),
+        SlipAnswer::Read(v) => print_verdict(&mut to, v),
+        SlipAnswer::Refused(code) => print_refusal(&mut to, code),
     }
 }

@@ -1,8 +1,13 @@
-// Buffers for what a program reads from standard input, and for its rows. Separate functions make them and state their lengths, so that
-// no proof computes lengths from the arrays.
+// Buffers for what a program reads from standard input, and for its rows; and reading into one. Separate functions make the buffers and
+// state their lengths, so that no proof computes lengths from the arrays.
 #![tactic(auto)]
 
-ghost use Rattle.std.specs.Prelude.{◌≡◌, length};
+ghost use Rattle.std.specs.Prelude.{◌≡◌, ◌<◌, IfOk, length, take};
+ghost use Rattle.std.specs.Io.{ReadsAtMost};
+ghost use Rattle.std.specs.Io.KnownBytes.{Consumes, IsAtEnd};
+
+use std::io;
+use std::io::Read;
 
 // The most bytes that a program takes.
 pub const MOST: usize = 65_536;
@@ -25,4 +30,29 @@ pub fn row_buffer() -> [u32; ROW_NUMBERS]
     ensures { 57344 ≡ length result }
 {
     [0; ROW_NUMBERS]
+}
+
+// A buffer for as many bytes as a program takes.
+pub fn large_buffer() -> [u8; MOST]
+    ensures { 65536 ≡ length result }
+{
+    [0; MOST]
+}
+
+// Reads until the buffer is full or the input ends, and returns how many bytes it put at the buffer's start. A read that fails ends it
+// with that error. The bytes are the next ones of the reader, and only where it has no more are they fewer than the buffer takes.
+pub fn read_full<R: Read>(from: &mut R, buffer: &mut [u8]) -> io::Result<usize>
+    ensures within { ReadsAtMost result buffer.new }
+    ensures bytes { IfOk result (λ n. Consumes (R.remaining from.old) (R.remaining from.new) (take n buffer.new)) }
+    ensures all { IfOk result (λ n. n < length buffer.new → IsAtEnd (R.remaining from.new)) }
+{
+    let mut done = 0;
+    while done < buffer.len() {
+        let n = from.read(&mut buffer[done..])?;
+        if n == 0 {
+            break;
+        }
+        done += n;
+    }
+    Ok(done)
 }
