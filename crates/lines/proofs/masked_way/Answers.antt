@@ -38,7 +38,7 @@ returns c =
           right-most = c.offset_of-right.ensures.most;
         };
         above = room;
-        below = omega (arith, c.requires.1.1.1, c.lower-1.given);
+        below = omega (arith, c.requires.1.1.1);
         averaged = rw c.moved.ensures.0 at c.average_row.ensures;
       };
       shades = λ t f i. offset-shade t c.args.g c.args.pixels.now f (us_values c.args.masks.now)

@@ -49,8 +49,14 @@ sample-requires c =
 
 pub overflow_add-place : goal.overflow_add-place
 overflow_add-place c =
-    omega
-    (arith, c.sample.ensures.1, power-most c.args.g.stored c.requires.0.shape.stored-most, c.power-low.ensures)
+    omega (
+      arith,
+      c.sample.ensures.1,
+      power-most c.args.g.stored c.requires.0.shape.stored-most,
+      c.power-half.ensures,
+      c.power-low.ensures,
+      half-low c.args.g.stored c.requires.0.shape.stored_some,
+    )
 
 pub overflow_add-place-in-loop-c : goal.overflow_add-place-in-loop-c
 overflow_add-place-in-loop-c c =

@@ -78,7 +78,7 @@ blend_all-requires c =
     (rw c.moved.ensures.0 at c.average_row.ensures) c.requires.1.1.masked.taken.some
     c.requires.1.1.masked.taken.few
     (rw (painted-length _ _ _) (omega (arith, c.requires.0.shape.columns-most, c.requires.1.1.above)))
-    (omega (arith, c.requires.1.1.below, c.requires.0.shape.columns-most, c.lower-1.given)))
+    (omega (arith, c.requires.1.1.below, c.requires.0.shape.columns-most)))
 
 pub masked_row-requires : goal.masked_row-requires
 masked_row-requires c = (
@@ -91,7 +91,7 @@ masked_row-requires c = (
       (rw c.moved.ensures.0 at c.average_row.ensures) c.requires.1.1.masked.taken.some
       c.requires.1.1.masked.taken.few
       (rw (painted-length _ _ _) (omega (arith, c.requires.0.shape.columns-most, c.requires.1.1.above)))
-      (omega (arith, c.requires.1.1.below, c.requires.0.shape.columns-most, c.lower-1.given)) _
+      (omega (arith, c.requires.1.1.below, c.requires.0.shape.columns-most)) _
       (rw (c.weights-w.ensures, c.copy.ensures) at c.blend_all.ensures) c.requires.0.room,
   omega (arith, (c.requires.1.0.shades c.if-shades.true).size),
 )
@@ -107,7 +107,7 @@ masked_by_window-requires c = (
       (rw c.moved.ensures.0 at c.average_row.ensures) c.requires.1.1.masked.taken.some
       c.requires.1.1.masked.taken.few
       (rw (painted-length _ _ _) (omega (arith, c.requires.0.shape.columns-most, c.requires.1.1.above)))
-      (omega (arith, c.requires.1.1.below, c.requires.0.shape.columns-most, c.lower-1.given)) _
+      (omega (arith, c.requires.1.1.below, c.requires.0.shape.columns-most)) _
       (rw (c.weights-w.ensures, c.copy.ensures) at c.blend_all.ensures) c.requires.0.room,
   c.requires.1.0.drawable,
 )
@@ -125,7 +125,7 @@ returns-then-shades c =
           (rw c.moved.ensures.0 at c.average_row.ensures) c.requires.1.1.masked.taken.some
           c.requires.1.1.masked.taken.few
           (rw (painted-length _ _ _) (omega (arith, c.requires.0.shape.columns-most, c.requires.1.1.above)))
-          (omega (arith, c.requires.1.1.below, c.requires.0.shape.columns-most, c.lower-1.given)) _
+          (omega (arith, c.requires.1.1.below, c.requires.0.shape.columns-most)) _
           (rw (c.weights-w.ensures, c.copy.ensures) at c.blend_all.ensures)
           (c.requires.1.0.shades c.if-shades.true);
       averaged = next_row_lem c.args.pixels.now c.args.g
@@ -146,7 +146,7 @@ returns-else-shades c =
           (rw c.moved.ensures.0 at c.average_row.ensures) c.requires.1.1.masked.taken.some
           c.requires.1.1.masked.taken.few
           (rw (painted-length _ _ _) (omega (arith, c.requires.0.shape.columns-most, c.requires.1.1.above)))
-          (omega (arith, c.requires.1.1.below, c.requires.0.shape.columns-most, c.lower-1.given)) _
+          (omega (arith, c.requires.1.1.below, c.requires.0.shape.columns-most)) _
           (rw (c.weights-w.ensures, c.copy.ensures) at c.blend_all.ensures);
       averaged = next_row_lem
           c.args.pixels.now c.args.g (us_values c.args.masks.now) (c.args.down / 4) c.args.row _

@@ -48,7 +48,7 @@ draw_row-requires c =
       most = omega (arith, c.requires.1.1.masked.right-most, div-add-mod' c.args.right 4);
       shades = omega (arith, (c.requires.1.0.shades c.requires.1.1.is-filled).size);
       summed = λ k l. (
-        omega (arith, c.sums-1.given, c.requires.1.1.room, c.requires.0.shape.columns-most),
+        omega (arith, c.requires.1.1.room, c.requires.0.shape.columns-most),
         spread-most c.args.pixels.now c.args.g (us_values c.args.masks.now) c.moved.result _ _
             (sym (us_values-length c.args.masks.now)) c.mask_row.ensures k l,
       );

@@ -78,9 +78,9 @@ pub loop-row-preserved : goal.loop-row-preserved
 loop-row-preserved c = (
   omega (arith, c.loop-row-test.true),
   (
-    c.upper-1.given ∙ c.loop-row.invariant.1.0,
+    c.draw_line.auto.upper ∙ c.loop-row.invariant.1.0,
     (
-      c.lower-1.given ∙ c.loop-row.invariant.1.1.0,
+      c.draw_line.auto.lower ∙ c.loop-row.invariant.1.1.0,
       (
         c.draw_line.ensures.way_ready,
         next-line
