@@ -26,10 +26,10 @@ use Rattle.meta.specs.Internal.{UidWithin, FoundWithin, walk_of}
 
 -- ---- Rows one after another
 
-found-append : (f : HeadFindings) (a b : List Row) → found_in f (a ++ b) ≡ found_in (found_in f a) b
+found-append : (a b : List Row) (f : HeadFindings) → found_in f (a ++ b) ≡ found_in (found_in f a) b
 unfolding found_in
-found-append f [] b = refl
-found-append f (r ∷ rs) b = found-append (cond (eqb r.depth 0) (noted f r.tag r.vr r.offset r.size) f) rs b
+found-append [] b f = refl
+found-append (r ∷ rs) b f = found-append rs b _
 
 found-deep : (f : HeadFindings) (rows : List Row) → Deep 1 rows → found_in f rows ≡ f
 unfolding found_in
@@ -44,7 +44,7 @@ found_first f tag vr offset size descendants parent rows = refl
 pub found-next : (f : HeadFindings) (rows below : List Row) (tag vr offset size descendants parent : ℕ) → Deep 1 below
     → found_in f (rows ++ (row tag vr 0 offset size descendants parent ∷ below)) ≡ noted (found_in f rows) tag vr offset size
 found-next f rows below tag vr offset size descendants parent d =
-    found-append f rows (row tag vr 0 offset size descendants parent ∷ below)
+    found-append rows (row tag vr 0 offset size descendants parent ∷ below) f
     ∙ found_first (found_in f rows) tag vr offset size descendants parent below
     ∙ found-deep (noted (found_in f rows) tag vr offset size) below d
 

@@ -3,9 +3,6 @@ use borrow.Author.Tests.{le-leb, lt-leb}
 use mathlib.Core.Path.{sym, ◌∙◌}
 use Rattle.steps.proofs.inverse_by.Goals as goal
 
--- LOST slice-aggregate-is-word : tie.Need-slice-aggregate-is-word
--- slice-aggregate-is-word c = search rules
-
 pub returns-then-is_word : goal.returns-then-is_word
 returns-then-is_word c =
     rw (

@@ -3,15 +3,6 @@ use Rattle.element.specs.Frames.{operation_is}
 use Rattle.steps.specs.Internal.{operation_of}
 use Rattle.steps.proofs.operation_of.Goals as goal
 
--- LOST slice-aggregate-is-cs-item : tie.Need-slice-aggregate-is-cs-item
--- slice-aggregate-is-cs-item c = search rules
-
--- LOST slice-aggregate-is-cs-item-2 : tie.Need-slice-aggregate-is-cs-item-2
--- slice-aggregate-is-cs-item-2 c = search rules
-
--- LOST slice-aggregate-is-cs-item-3 : tie.Need-slice-aggregate-is-cs-item-3
--- slice-aggregate-is-cs-item-3 c = search rules
-
 pub returns-then-is_cs_item : goal.returns-then-is_cs_item
 unfolding operation_of operation_is
 returns-then-is_cs_item c =
