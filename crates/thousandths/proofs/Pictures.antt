@@ -16,7 +16,7 @@ use Rattle.value.specs.Number.{is_number, is_width}
 use Rattle.basics.proofs.Tests.{and_both}
 use Rattle.shift.specs.declared.Moves.{Moves}
 use Rattle.node.specs.Nodes.{Node, inside}
-use Rattle.node.specs.Find.{holds, if_present, find_vr}
+use Rattle.node.specs.Find.{if_present, find_vr}
 use Rattle.basics.specs.Tags
 use Rattle.basics.specs.Vr.{DS}
 use Rattle.element.specs.Elements.{value_at, the_item, function_in}
