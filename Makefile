@@ -28,7 +28,7 @@ man := share/man/man1
 all: $(built)/$(shared) $(built)/$(name).pc $(tool) $(built)/completions/done $(built)/man/done
 
 $(archive):
-	@echo "$@ is missing: rt staticlib cabi proves and builds it" >&2; exit 1
+	@echo "$@ is missing: tools/staticlib proves and builds it" >&2; exit 1
 
 $(tool):
 	@echo "$@ is missing: ./luux --version builds it" >&2; exit 1

@@ -1,4 +1,4 @@
-//! Links the proved library, which `rt staticlib cabi` writes into the repository's `target/staticlib`, and makes two tables: the attribute
+//! Links the proved library, which `tools/staticlib` writes into the repository's `target/staticlib`, and makes two tables: the attribute
 //! names, from the dictionary that Debian packages with pydicom, and the rules' sentences, from the source of the program `judge_one`. How
 //! many rules there are comes from the header.
 
@@ -52,8 +52,8 @@ fn tables(dictionary: &str) -> String {
     source
 }
 
-/// Where the rules' sentences stand, from the host's folder. Each is an arm of a match: `9 => say(b"Samples per Pixel (0028,0002) US must be 1."),`
-/// with the text on the next line where it is long.
+/// Where the rules' sentences stand, from the host's folder. Each is an arm of a match: `9 => say(to, b"Samples per Pixel (0028,0002) US must be 1."),`
+/// on several lines where the text is long.
 const SENTENCES: &str = "../crates/judge_one/src/sentence.rt";
 
 /// The header, from the host's folder. It says how many rules there are: `#define XA_RULES 39`.
@@ -71,7 +71,8 @@ pub fn sentences(source: &str, rules: usize) -> Result<Vec<&str>, String> {
     let mut before = arms.next().unwrap_or_default();
     for arm in arms {
         let number = before.rsplit(char::is_whitespace).next().unwrap_or_default();
-        let text = arm.trim_start().strip_prefix("b\"").and_then(|text| text.split_once('"'));
+        let text = arm.trim_start().strip_prefix("to,").map(str::trim_start);
+        let text = text.and_then(|text| text.strip_prefix("b\"")).and_then(|text| text.split_once('"'));
         match text {
             _ if number != (found.len() + 1).to_string() => {
                 return Err(format!("rule {} is due, and the arm is that of {number:?}", found.len() + 1));

@@ -80,9 +80,9 @@ mod tests {
         let of = |source: &str| build::sentences(source, COUNT).map(|found| found.join("\n"));
         assert_eq!(of(source).unwrap(), RULES.join("\n"));
         for (old, new) in [
-            ("9 => say(b\"Samples", "40 => say(b\"Samples"),
-            ("9 => say(b\"Samples", "9 => tell(b\"Samples"),
-            ("say(b\"Samples", "say(\"Samples"),
+            ("9 => say(to, b\"Samples", "40 => say(to, b\"Samples"),
+            ("9 => say(to, b\"Samples", "9 => tell(to, b\"Samples"),
+            ("say(to, b\"Samples", "say(to, \"Samples"),
             ("US must be 1.\"),", "US must be 1\"),"),
             ("US must be 1.\"),", "US must be \\x31.\"),"),
             ("US must be 1.\"),", "US must be 1.\", 1),"),
