@@ -13,7 +13,7 @@ use Rattle.privacy.proofs.Nodes.{count_same}
 
 module _ (s t : List ℕ) (w : SameRows s t) (a : Alike (nodes_of s) (nodes_of t)) where
   reading-same : (buffer : List ℕ) → answer_of (reading_of s) buffer ≡ answer_of (reading_of t) buffer
-  reading-same buffer = rw (w.reads, w.reads-other, count_same s t w)
+  reading-same buffer = rw (w.reads, w.reads_other, count_same s t w)
 
   pub judge-same : (buffer : List ℕ) → judge_of s buffer ≡ judge_of t buffer
   unfolding judge_of

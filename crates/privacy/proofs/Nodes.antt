@@ -23,8 +23,8 @@ module _ {A : Type 0} (d : A) where
       → f (row_at rs i) ≡ g (row_at qs i)
   both_at f g x y rs qs e i = sym (map_at f x rs i) ∙ ap (λ (l : List A). get_or l i d) e ∙ map_at g y qs i
 
-node_at_lem : (s : List ℕ) (rs : List Row) (i : ℕ) → node_at (map (node_of s) rs) i ≡ node_of s (row_at rs i)
-node_at_lem s rs i = map_at no_node (node_of s) refl rs i
+node-at : (s : List ℕ) (rs : List Row) (i : ℕ) → node_at (map (node_of s) rs) i ≡ node_of s (row_at rs i)
+node-at s rs i = map_at no_node (node_of s) refl rs i
 
 module _ (s t : List ℕ) (w : SameRows s t) where
   pub outline-at : (i : ℕ) → outline (row_at w.rows i) ≡ outline (row_at w.others i)
@@ -45,10 +45,10 @@ module _ (s t : List ℕ) (w : SameRows s t) where
   others-are = rw w.reads_other
 
   node-is : (i : ℕ) → node_at (nodes_of s) i ≡ node_of s (row_at w.rows i)
-  node-is i = ap (λ (ns : List Node). node_at ns i) nodes-are ∙ node_at_lem s w.rows i
+  node-is i = ap (λ (ns : List Node). node_at ns i) nodes-are ∙ node-at s w.rows i
 
   other-is : (i : ℕ) → node_at (nodes_of t) i ≡ node_of t (row_at w.others i)
-  other-is i = ap (λ (ns : List Node). node_at ns i) others-are ∙ node_at_lem t w.others i
+  other-is i = ap (λ (ns : List Node). node_at ns i) others-are ∙ node-at t w.others i
 
   -- A part of a node that its row has too.
   part_same : {A : Type 0} (part : Node → A) (i : ℕ) → part (node_of s (row_at w.rows i)) ≡ part (node_of t (row_at w.others i))
