@@ -8,57 +8,62 @@ use conformance::JudgeAnswer;
 use judge_small::Located;
 use printing::print_field;
 use room::input;
+use std::io;
+use std::io::Write;
 
-fn print_accepted(rows: usize) {
-    print_field(1, b"accepted\ncode 0 rows", rows);
-    io::write_all(1, b"\n");
+fn print_accepted<W: Write>(to: &mut W, rows: usize) -> io::Result<()> {
+    print_field(to, b"accepted\ncode 0 rows", rows)?;
+    to.write_all(b"\n")
 }
 
 // The frame's item in the data set, and its row; nothing if the rule does not concern a single frame.
-fn print_item(frame: usize, row: usize) {
+fn print_item<W: Write>(to: &mut W, frame: usize, row: usize) -> io::Result<()> {
     if row == 0 {
-        return;
+        return Ok(());
     }
-    print_field(1, b", item", frame);
-    print_field(1, b" of (5200,9230), row", row);
+    print_field(to, b", item", frame)?;
+    print_field(to, b" of (5200,9230), row", row)
 }
 
-fn print_broken(rows: usize, rule: usize, frame: usize, row: usize) {
-    print_field(1, b"refused\ncode 9 rule", rule);
-    print_field(1, b" frame", frame);
-    print_field(1, b" rows", rows);
-    print_item(frame, row);
-    io::write_all(1, b"\n");
-    sentence::print_sentence(rule);
+fn print_broken<W: Write>(
+    to: &mut W,
+    rows: usize,
+    rule: usize,
+    frame: usize,
+    row: usize,
+) -> io::Result<()> {
+    print_field(to, b"refused\ncode 9 rule", rule)?;
+    print_field(to, b" frame", frame)?;
+    print_field(to, b" rows", rows)?;
+    print_item(to, frame, row)?;
+    to.write_all(b"\n")?;
+    sentence::print_sentence(to, rule)
 }
 
-fn print_unread(code: usize, offset: usize) {
-    print_field(1, b"refused\ncode", code);
-    print_field(1, b" place", offset);
-    io::write_all(1, b"\n");
+fn print_unread<W: Write>(to: &mut W, code: usize, offset: usize) -> io::Result<()> {
+    print_field(to, b"refused\ncode", code)?;
+    print_field(to, b" place", offset)?;
+    to.write_all(b"\n")
 }
 
-fn print_answer(located: Located) {
+fn print_answer<W: Write>(to: &mut W, located: Located) -> io::Result<()> {
     let answer = located.answer;
     match answer {
-        JudgeAnswer::Accepted(rows) => print_accepted(rows),
-        JudgeAnswer::Broken(rows, rule, frame) => print_broken(rows, rule, frame, located.row),
-        JudgeAnswer::Refused(code, offset) => print_unread(code, offset),
-        JudgeAnswer::TooLarge => {
-            io::write_all(1, b"refused\ncode 7\n");
-        }
-        JudgeAnswer::NoRoom => {
-            io::write_all(1, b"refused\ncode 8\n");
-        }
+        JudgeAnswer::Accepted(rows) => print_accepted(to, rows),
+        JudgeAnswer::Broken(rows, rule, frame) => print_broken(to, rows, rule, frame, located.row),
+        JudgeAnswer::Refused(code, offset) => print_unread(to, code, offset),
+        JudgeAnswer::TooLarge => to.write_all(b"refused\ncode 7\n"),
+        JudgeAnswer::NoRoom => to.write_all(b"refused\ncode 8\n"),
     }
 }
 
-fn main() {
+fn main(rt: HostRuntime) -> io::Result<()> {
     let mut bytes = input();
-    let n = io::read_full(0, &mut bytes);
+    let n = room::read_full(&mut rt.stdin(), &mut bytes)?;
+    let mut to = rt.stdout();
     if room::MOST < n {
-        io::write_all(1, b"too long: at most 65536 bytes\n");
-        return;
+        to.write_all(b"too long: at most 65536 bytes\n")?;
+        return Ok(());
     }
-    print_answer(judge_small::judge_located(&bytes[..n]));
+    print_answer(&mut to, judge_small::judge_located(&bytes[..n]))
 }

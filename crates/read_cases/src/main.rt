@@ -5,6 +5,8 @@
 ghost use Rattle.std.specs.Prelude.{◌≡◌, length};
 
 use cases::{case_at, print_rest};
+use std::io;
+use std::io::Write;
 
 // All cases together.
 fn input() -> [u8; 65_536]
@@ -13,7 +15,7 @@ fn input() -> [u8; 65_536]
     [0; 65_536]
 }
 
-fn print_cases(cases: &[u8]) {
+fn print_cases<W: Write>(to: &mut W, cases: &[u8]) -> io::Result<()> {
     let mut at: usize = 0;
     loop {
         let case = case_at(cases, at);
@@ -22,14 +24,15 @@ fn print_cases(cases: &[u8]) {
         if end == at {
             break;
         }
-        rowprint::print_reading(&cases[start..end]);
+        rowprint::print_reading(to, &cases[start..end])?;
         at = end;
     }
-    print_rest(cases, at);
+    print_rest(to, cases, at)
 }
 
-fn main() {
+fn main(rt: HostRuntime) -> io::Result<()> {
     let mut bytes = input();
-    let n = io::read_full(0, &mut bytes);
-    print_cases(&bytes[..n]);
+    let n = room::read_full(&mut rt.stdin(), &mut bytes)?;
+    let mut to = rt.stdout();
+    print_cases(&mut to, &bytes[..n])
 }

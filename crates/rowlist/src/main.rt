@@ -2,9 +2,11 @@
 #![tactic(auto)]
 
 use room::input;
+use std::io;
 
-fn main() {
+fn main(rt: HostRuntime) -> io::Result<()> {
     let mut bytes = input();
-    let n = io::read_full(0, &mut bytes);
-    rowprint::print_reading(&bytes[..n]);
+    let n = room::read_full(&mut rt.stdin(), &mut bytes)?;
+    let mut to = rt.stdout();
+    rowprint::print_reading(&mut to, &bytes[..n])
 }

@@ -1,4 +1,4 @@
-// The reading of a data set, printed to standard output: `rows N` and a line for each row, or the refusal.
+// The reading of a data set, printed to the writer `to`: `rows N` and a line for each row, or the refusal.
 #![tactic(auto)]
 
 ghost use Rattle.std.specs.Prelude.{◌≡◌, ◌+◌, ◌*◌, ◌≤◌, length};
@@ -10,6 +10,8 @@ ghost use Rattle.rowprint.specs.Internal.{RowsHeld, Roomy};
 use dataset::ReadAnswer;
 use printing::{print_code, print_unread};
 use room::row_buffer;
+use std::io;
+use std::io::Write;
 
 fn hex_digit(n: u32) -> u8
     ensures { result ≡ hex_digit n }
@@ -47,44 +49,44 @@ fn wide(n: u32) -> u64 {
     n as u64
 }
 
-fn print_number(n: u64) {
-    io::write_all(1, b" ");
-    io::print_decimal(1, n);
+fn print_number<W: Write>(to: &mut W, n: u64) -> io::Result<()> {
+    write!(to, " {n}")
 }
 
-fn print_row(rows: &[u32], i: usize)
+fn print_row<W: Write>(to: &mut W, rows: &[u32], i: usize) -> io::Result<()>
     requires { width * i + width ≤ length rows.now }
 {
     let at = dataset::WIDTH * i;
     let text = row_heading(rows[at], rows[at + dataset::VR]);
-    io::write_all(1, &text);
-    print_number(wide(rows[at + dataset::DEPTH]));
-    print_number(wide(rows[at + dataset::OFFSET]));
-    print_number(wide(rows[at + dataset::SIZE]));
-    print_number(wide(rows[at + dataset::DESCENDANTS]));
-    print_number(wide(rows[at + dataset::PARENT]));
-    io::write_all(1, b"\n");
+    to.write_all(&text)?;
+    print_number(to, wide(rows[at + dataset::DEPTH]))?;
+    print_number(to, wide(rows[at + dataset::OFFSET]))?;
+    print_number(to, wide(rows[at + dataset::SIZE]))?;
+    print_number(to, wide(rows[at + dataset::DESCENDANTS]))?;
+    print_number(to, wide(rows[at + dataset::PARENT]))?;
+    to.write_all(b"\n")
 }
 
-fn print_rows(rows: &[u32], n: usize)
+fn print_rows<W: Write>(to: &mut W, rows: &[u32], n: usize) -> io::Result<()>
     requires { width * n ≤ length rows.now }
 {
-    io::write_all(1, b"rows");
-    print_number(n as u64);
-    io::write_all(1, b"\n");
+    to.write_all(b"rows")?;
+    print_number(to, n as u64)?;
+    to.write_all(b"\n")?;
     for i in 0..n {
-        print_row(rows, i);
+        print_row(to, rows, i)?;
     }
+    Ok(())
 }
 
-fn print_answer(answer: ReadAnswer, rows: &[u32])
+fn print_answer<W: Write>(to: &mut W, answer: ReadAnswer, rows: &[u32]) -> io::Result<()>
     requires { RowsHeld answer rows.now }
 {
     match answer {
-        ReadAnswer::Done(n) => print_rows(rows, n),
-        ReadAnswer::Refused(code, offset) => print_unread(1, code, offset),
-        ReadAnswer::TooLarge => print_code(1, 7),
-        ReadAnswer::NoRoom => print_code(1, 8),
+        ReadAnswer::Done(n) => print_rows(to, rows, n),
+        ReadAnswer::Refused(code, offset) => print_unread(to, code, offset),
+        ReadAnswer::TooLarge => print_code(to, 7),
+        ReadAnswer::NoRoom => print_code(to, 8),
     }
 }
 
@@ -100,12 +102,12 @@ fn read_roomy(bytes: &[u8], rows: &mut [u32]) -> ReadAnswer
 }
 
 // Prints the reading of a data set of at most `room::MOST` bytes; for more, that it is too long.
-pub fn print_reading(bytes: &[u8]) {
+pub fn print_reading<W: Write>(to: &mut W, bytes: &[u8]) -> io::Result<()> {
     if room::MOST < bytes.len() {
-        io::write_all(1, b"too long: at most 65536 bytes\n");
-        return;
+        to.write_all(b"too long: at most 65536 bytes\n")?;
+        return Ok(());
     }
     let mut rows = row_buffer();
     let answer = read_roomy(bytes, &mut rows);
-    print_answer(answer, &rows);
+    print_answer(to, answer, &rows)
 }

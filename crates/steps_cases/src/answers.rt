@@ -1,141 +1,111 @@
 // The answers of the steps, in words and numbers. What a step lacks is printed as `lacks`.
 use shift::Shift;
+use std::io;
+use std::io::Write;
 use steps::{Found, Holds, Shifts, Sized, Windowed};
 use value::{Function, Signed};
 
-pub fn print_number(n: usize) {
-    io::write_all(1, b" ");
-    io::print_decimal(1, n as u64);
+pub fn print_number<W: Write>(to: &mut W, n: usize) -> io::Result<()> {
+    write!(to, " {n}")
 }
 
 // A number with its sign; zero has none. A number that was not read, or not as a small whole one, is `other`.
-fn print_signed(n: Signed) {
+fn print_signed<W: Write>(to: &mut W, n: Signed) -> io::Result<()> {
     match n {
-        Signed::Plus(k) => print_number(k),
-        Signed::Minus(k) => print_minus(k),
-        Signed::None => {
-            io::write_all(1, b" other");
-        }
+        Signed::Plus(k) => print_number(to, k),
+        Signed::Minus(k) => print_minus(to, k),
+        Signed::None => to.write_all(b" other"),
     }
 }
 
-fn print_minus(k: usize) {
+fn print_minus<W: Write>(to: &mut W, k: usize) -> io::Result<()> {
     if k == 0 {
-        print_number(k);
+        print_number(to, k)
     } else {
-        io::write_all(1, b" -");
-        io::print_decimal(1, k as u64);
+        write!(to, " -{k}")
     }
 }
 
 // Rows, Columns, bytes of a sample and bits stored in it.
-pub fn print_size(size: Sized) {
+pub fn print_size<W: Write>(to: &mut W, size: Sized) -> io::Result<()> {
     match size {
         Sized::Is(g) => {
-            io::write_all(1, b"size");
-            print_number(g.rows);
-            print_number(g.columns);
-            print_number(g.width);
-            print_number(g.stored);
+            to.write_all(b"size")?;
+            print_number(to, g.rows)?;
+            print_number(to, g.columns)?;
+            print_number(to, g.width)?;
+            print_number(to, g.stored)
         }
-        Sized::Lacks => {
-            io::write_all(1, b"size lacks");
-        }
+        Sized::Lacks => to.write_all(b"size lacks"),
     }
 }
 
-pub fn print_inverse(inverse: Holds) {
+pub fn print_inverse<W: Write>(to: &mut W, inverse: Holds) -> io::Result<()> {
     match inverse {
-        Holds::Yes => {
-            io::write_all(1, b" inverse yes");
-        }
-        Holds::No => {
-            io::write_all(1, b" inverse no");
-        }
-        Holds::Lacks => {
-            io::write_all(1, b" inverse lacks");
-        }
+        Holds::Yes => to.write_all(b" inverse yes"),
+        Holds::No => to.write_all(b" inverse no"),
+        Holds::Lacks => to.write_all(b" inverse lacks"),
     }
 }
 
 // Step 3, TID: the mask frame, or that the frame is native.
-pub fn print_tid(frame: Found) {
+pub fn print_tid<W: Write>(to: &mut W, frame: Found) -> io::Result<()> {
     match frame {
         Found::At(n) => {
-            io::write_all(1, b" tid");
-            print_number(n);
+            to.write_all(b" tid")?;
+            print_number(to, n)
         }
-        Found::Absent => {
-            io::write_all(1, b" tid native");
-        }
-        Found::Lacks => {
-            io::write_all(1, b" tid lacks");
-        }
+        Found::Absent => to.write_all(b" tid native"),
+        Found::Lacks => to.write_all(b" tid lacks"),
     }
 }
 
-fn print_kind(s: Shift) {
+fn print_kind<W: Write>(to: &mut W, s: Shift) -> io::Result<()> {
     match s {
-        Shift::None => {
-            io::write_all(1, b" shift none");
-        }
-        Shift::Item(_, _) => {
-            io::write_all(1, b" shift item");
-        }
-        Shift::Frame(_, _) => {
-            io::write_all(1, b" shift frame");
-        }
+        Shift::None => to.write_all(b" shift none"),
+        Shift::Item(_, _) => to.write_all(b" shift item"),
+        Shift::Frame(_, _) => to.write_all(b" shift frame"),
     }
 }
 
 // Whose two numbers the shift has, and how far it moves the mask. The library reads only whole quarters from -64 to 64.
-fn print_moves(s: Shift) {
-    print_kind(s);
+fn print_moves<W: Write>(to: &mut W, s: Shift) -> io::Result<()> {
+    print_kind(to, s)?;
     let m = shift::short_moves_of(s);
     let v = m.vertical;
     let h = m.horizontal;
-    print_signed(v);
-    print_signed(h);
+    print_signed(to, v)?;
+    print_signed(to, h)
 }
 
 // Step 4.
-pub fn print_shift(shift: Shifts) {
+pub fn print_shift<W: Write>(to: &mut W, shift: Shifts) -> io::Result<()> {
     match shift {
-        Shifts::Is(s) => print_moves(s),
-        Shifts::Lacks => {
-            io::write_all(1, b" shift lacks");
-        }
+        Shifts::Is(s) => print_moves(to, s),
+        Shifts::Lacks => to.write_all(b" shift lacks"),
     }
 }
 
-fn print_function(function: Function) {
+fn print_function<W: Write>(to: &mut W, function: Function) -> io::Result<()> {
     match function {
-        Function::Linear => {
-            io::write_all(1, b" LINEAR");
-        }
-        Function::Exact => {
-            io::write_all(1, b" LINEAR_EXACT");
-        }
-        Function::Other => {
-            io::write_all(1, b" other");
-        }
+        Function::Linear => to.write_all(b" LINEAR"),
+        Function::Exact => to.write_all(b" LINEAR_EXACT"),
+        Function::Other => to.write_all(b" other"),
     }
 }
 
 // Step 6: the function, and the centre and the width in units of a DS number.
-pub fn print_window(window: Windowed) {
+pub fn print_window<W: Write>(to: &mut W, window: Windowed) -> io::Result<()> {
     match window {
         Windowed::Is(w) => {
             let function = w.function;
             let center = w.center;
             let width = w.width;
-            io::write_all(1, b" window");
-            print_function(function);
-            print_signed(center);
-            print_signed(width);
+            to.write_all(b" window")?;
+            print_function(to, function)?;
+            print_signed(to, center)?;
+            print_signed(to, width)
         }
-        Windowed::Lacks => {
-            io::write_all(1, b" window lacks");
-        }
+        Windowed::Lacks => to.write_all(b" window lacks"),
     }
 }

@@ -10,6 +10,8 @@ ghost use Rattle.steps_cases.specs.Internal.{applies_of, AppliesBelow};
 
 use crate::answers;
 use basics::{tags, vrs};
+use std::io;
+use std::io::Write;
 use steps::{Applying, Holds, Operation, Sized};
 use value::Num;
 
@@ -22,37 +24,42 @@ pub enum Applies {
 }
 
 // How many bytes of pixels there are.
-pub fn print_pixels(bytes: &[u8], rows: &[u32], pixels: Num)
+pub fn print_pixels<W: Write>(to: &mut W, bytes: &[u8], rows: &[u32], pixels: Num) -> io::Result<()>
     requires { Table bytes.now rows.now × Below (length (nodes_of bytes.now)) pixels }
 {
     match pixels {
         Num::Is(p) => {
-            io::write_all(1, b" pixels");
-            answers::print_number(node::value(bytes, rows, p).len());
+            to.write_all(b" pixels")?;
+            answers::print_number(to, node::value(bytes, rows, p).len())?;
         }
-        Num::None => {
-            io::write_all(1, b" pixels lacks");
-        }
+        Num::None => to.write_all(b" pixels lacks")?,
     }
-    io::write_all(1, b"\n");
+    to.write_all(b"\n")
 }
 
 // Whether the whole frame lies inside the pixel bytes.
-fn print_whole(bytes: &[u8], rows: &[u32], size: Sized, pixels: Num, frame: usize)
+fn print_whole<W: Write>(
+    to: &mut W,
+    bytes: &[u8],
+    rows: &[u32],
+    size: Sized,
+    pixels: Num,
+    frame: usize,
+) -> io::Result<()>
     requires { Table bytes.now rows.now × (Below (length (nodes_of bytes.now)) pixels × (SizedSmall size × (frame < 5))) }
 {
     let Sized::Is(g) = size else {
-        io::write_all(1, b" -");
-        return;
+        to.write_all(b" -")?;
+        return Ok(());
     };
     let Num::Is(p) = pixels else {
-        io::write_all(1, b" -");
-        return;
+        to.write_all(b" -")?;
+        return Ok(());
     };
     if pixel::is_frame(g, node::value(bytes, rows, p), frame) {
-        io::write_all(1, b" whole");
+        to.write_all(b" whole")
     } else {
-        io::write_all(1, b" part");
+        to.write_all(b" part")
     }
 }
 
@@ -71,79 +78,90 @@ fn count_members(bytes: &[u8], rows: &[u32], from: usize, to: usize) -> usize
     n
 }
 
-fn print_operation(operation: Operation) {
+fn print_operation<W: Write>(to: &mut W, operation: Operation) -> io::Result<()> {
     match operation {
-        Operation::Native => {
-            io::write_all(1, b" NONE");
-        }
-        Operation::Average => {
-            io::write_all(1, b" AVG_SUB");
-        }
-        Operation::Tid => {
-            io::write_all(1, b" TID");
-        }
-        Operation::Lacks => {
-            io::write_all(1, b" lacks");
-        }
+        Operation::Native => to.write_all(b" NONE"),
+        Operation::Average => to.write_all(b" AVG_SUB"),
+        Operation::Tid => to.write_all(b" TID"),
+        Operation::Lacks => to.write_all(b" lacks"),
     }
 }
 
-fn print_numbers(v: &[u8]) {
+fn print_numbers<W: Write>(to: &mut W, v: &[u8]) -> io::Result<()> {
     let n = v.len() / 2;
     for k in 0..n {
-        answers::print_number(value::us_value(v, k));
+        answers::print_number(to, value::us_value(v, k))?;
     }
+    Ok(())
 }
 
 // Step 3, AVG_SUB: the mask frames.
-fn print_masks(bytes: &[u8], rows: &[u32], masks: Num)
+fn print_masks<W: Write>(to: &mut W, bytes: &[u8], rows: &[u32], masks: Num) -> io::Result<()>
     requires { Table bytes.now rows.now × Below (length (nodes_of bytes.now)) masks }
 {
     match masks {
         Num::Is(k) => {
-            io::write_all(1, b" masks");
-            print_numbers(node::value(bytes, rows, k));
+            to.write_all(b" masks")?;
+            print_numbers(to, node::value(bytes, rows, k))
         }
-        Num::None => {
-            io::write_all(1, b" masks lacks");
-        }
+        Num::None => to.write_all(b" masks lacks"),
     }
 }
 
 // Step 3, TID: the mask frame.
-fn print_tid(bytes: &[u8], rows: &[u32], frame: usize, j: usize)
+fn print_tid<W: Write>(
+    to: &mut W,
+    bytes: &[u8],
+    rows: &[u32],
+    frame: usize,
+    j: usize,
+) -> io::Result<()>
     requires { Table bytes.now rows.now × ((j < length (nodes_of bytes.now)) × (frame < 5)) }
 {
     let frames = element::frame_count(bytes, rows);
-    answers::print_tid(steps::tid_frame(bytes, rows, frame, j, frames));
+    answers::print_tid(to, steps::tid_frame(bytes, rows, frame, j, frames))
 }
 
 // Step 4. It is not asked for frame 0, which no data set has.
-fn print_shift(bytes: &[u8], rows: &[u32], frame: usize, item: Num, j: usize)
+fn print_shift<W: Write>(
+    to: &mut W,
+    bytes: &[u8],
+    rows: &[u32],
+    frame: usize,
+    item: Num,
+    j: usize,
+) -> io::Result<()>
     requires { Table bytes.now rows.now
         × ((j < length (nodes_of bytes.now))
         × ((item ≡ frame_item (nodes_of bytes.now) frame) × Below (length (nodes_of bytes.now)) item)) }
 {
     if frame == 0 {
-        io::write_all(1, b" shift -");
+        to.write_all(b" shift -")
     } else {
-        answers::print_shift(steps::shift_for(bytes, rows, frame, item, j));
+        answers::print_shift(to, steps::shift_for(bytes, rows, frame, item, j))
     }
 }
 
 // Mask item j, which applies to the frame: its place among the mask items, its operation, and what steps 3 and 4 give.
-fn print_item(bytes: &[u8], rows: &[u32], frame: usize, item: Num, j: usize)
+fn print_item<W: Write>(
+    to: &mut W,
+    bytes: &[u8],
+    rows: &[u32],
+    frame: usize,
+    item: Num,
+    j: usize,
+) -> io::Result<()>
     requires { Table bytes.now rows.now
         × ((j < length (nodes_of bytes.now))
         × ((item ≡ frame_item (nodes_of bytes.now) frame) × (Below (length (nodes_of bytes.now)) item × (frame < 5)))) }
 {
     let items = element::mask_items(bytes, rows);
-    io::write_all(1, b" item");
-    answers::print_number(count_members(bytes, rows, items.at, j) + 1);
-    print_operation(steps::operation_of(bytes, rows, j));
-    print_masks(bytes, rows, steps::average_element(bytes, rows, j));
-    print_tid(bytes, rows, frame, j);
-    print_shift(bytes, rows, frame, item, j);
+    to.write_all(b" item")?;
+    answers::print_number(to, count_members(bytes, rows, items.at, j) + 1)?;
+    print_operation(to, steps::operation_of(bytes, rows, j))?;
+    print_masks(to, bytes, rows, steps::average_element(bytes, rows, j))?;
+    print_tid(to, bytes, rows, frame, j)?;
+    print_shift(to, bytes, rows, frame, item, j)
 }
 
 // What the search found, or that the range there lacks something.
@@ -188,50 +206,66 @@ fn applying_to(bytes: &[u8], rows: &[u32], frame: usize) -> Applies
 }
 
 // Steps 2 to 4.
-fn print_mask(bytes: &[u8], rows: &[u32], frame: usize, item: Num)
+fn print_mask<W: Write>(
+    to: &mut W,
+    bytes: &[u8],
+    rows: &[u32],
+    frame: usize,
+    item: Num,
+) -> io::Result<()>
     requires { Table bytes.now rows.now
         × ((item ≡ frame_item (nodes_of bytes.now) frame) × (Below (length (nodes_of bytes.now)) item × (frame < 5))) }
 {
     match applying_to(bytes, rows, frame) {
-        Applies::Item(j) => print_item(bytes, rows, frame, item, j),
-        Applies::Nothing => {
-            io::write_all(1, b" native");
-        }
-        Applies::Lacks => {
-            io::write_all(1, b" lacks");
-        }
+        Applies::Item(j) => print_item(to, bytes, rows, frame, item, j),
+        Applies::Nothing => to.write_all(b" native"),
+        Applies::Lacks => to.write_all(b" lacks"),
     }
 }
 
 // Step 6, likewise. The library gives windows for at most 16 bits stored.
-fn print_window(bytes: &[u8], rows: &[u32], size: Sized, frame: usize, item: Num)
+fn print_window<W: Write>(
+    to: &mut W,
+    bytes: &[u8],
+    rows: &[u32],
+    size: Sized,
+    frame: usize,
+    item: Num,
+) -> io::Result<()>
     requires { Table bytes.now rows.now
         × (SizedSmall size × ((item ≡ frame_item (nodes_of bytes.now) frame) × Below (length (nodes_of bytes.now)) item)) }
 {
     let Sized::Is(g) = size else {
-        io::write_all(1, b" window -");
-        return;
+        to.write_all(b" window -")?;
+        return Ok(());
     };
     let stored = g.stored;
     if frame == 0 {
-        io::write_all(1, b" window -");
-        return;
+        to.write_all(b" window -")?;
+        return Ok(());
     }
     if 16 < stored {
-        io::write_all(1, b" window -");
-        return;
+        to.write_all(b" window -")?;
+        return Ok(());
     }
-    answers::print_window(steps::window_for(bytes, rows, frame, item, stored));
+    answers::print_window(to, steps::window_for(bytes, rows, frame, item, stored))
 }
 
-pub fn print_frame(bytes: &[u8], rows: &[u32], size: Sized, pixels: Num, frame: usize)
+pub fn print_frame<W: Write>(
+    to: &mut W,
+    bytes: &[u8],
+    rows: &[u32],
+    size: Sized,
+    pixels: Num,
+    frame: usize,
+) -> io::Result<()>
     requires { Table bytes.now rows.now × (Below (length (nodes_of bytes.now)) pixels × (SizedSmall size × (frame < 5))) }
 {
-    io::write_all(1, b"frame");
-    answers::print_number(frame);
-    print_whole(bytes, rows, size, pixels, frame);
+    to.write_all(b"frame")?;
+    answers::print_number(to, frame)?;
+    print_whole(to, bytes, rows, size, pixels, frame)?;
     let item = steps::item_at(bytes, rows, frame);
-    print_mask(bytes, rows, frame, item);
-    print_window(bytes, rows, size, frame, item);
-    io::write_all(1, b"\n");
+    print_mask(to, bytes, rows, frame, item)?;
+    print_window(to, bytes, rows, size, frame, item)?;
+    to.write_all(b"\n")
 }

@@ -11,6 +11,8 @@ ghost use Rattle.node.specs.Internal.{Table};
 use cases::{case_at, print_rest};
 use dataset::ReadAnswer;
 use room::row_buffer;
+use std::io;
+use std::io::Write;
 
 // All cases together.
 fn input() -> [u8; 262_144]
@@ -20,39 +22,34 @@ fn input() -> [u8; 262_144]
 }
 
 // A line for the data set, and one for each of the frames 0 to 4, some of which are in no data set.
-fn print_steps(bytes: &[u8], rows: &[u32])
+fn print_steps<W: Write>(to: &mut W, bytes: &[u8], rows: &[u32]) -> io::Result<()>
     requires { Table bytes.now rows.now }
 {
     let size = steps::geometry_of(bytes, rows);
     let pixels = steps::pixel_element(bytes, rows);
-    answers::print_size(size);
-    answers::print_inverse(steps::inverse_of(bytes, rows));
-    frames::print_pixels(bytes, rows, pixels);
+    answers::print_size(to, size)?;
+    answers::print_inverse(to, steps::inverse_of(bytes, rows))?;
+    frames::print_pixels(to, bytes, rows, pixels)?;
     for frame in 0..5 {
-        frames::print_frame(bytes, rows, size, pixels, frame);
+        frames::print_frame(to, bytes, rows, size, pixels, frame)?;
     }
+    Ok(())
 }
 
-fn print_case(bytes: &[u8]) {
+fn print_case<W: Write>(to: &mut W, bytes: &[u8]) -> io::Result<()> {
     let mut rows = row_buffer();
     match dataset::read(bytes, &mut rows) {
         ReadAnswer::Done(n) => {
             let end = dataset::WIDTH * n;
-            print_steps(bytes, &rows[..end]);
+            print_steps(to, bytes, &rows[..end])
         }
-        ReadAnswer::Refused(_, _) => {
-            io::write_all(1, b"unread\n");
-        }
-        ReadAnswer::TooLarge => {
-            io::write_all(1, b"too large\n");
-        }
-        ReadAnswer::NoRoom => {
-            io::write_all(1, b"no room\n");
-        }
+        ReadAnswer::Refused(_, _) => to.write_all(b"unread\n"),
+        ReadAnswer::TooLarge => to.write_all(b"too large\n"),
+        ReadAnswer::NoRoom => to.write_all(b"no room\n"),
     }
 }
 
-fn print_cases(cases: &[u8]) {
+fn print_cases<W: Write>(to: &mut W, cases: &[u8]) -> io::Result<()> {
     let mut at: usize = 0;
     loop {
         let case = case_at(cases, at);
@@ -61,14 +58,15 @@ fn print_cases(cases: &[u8]) {
         if end == at {
             break;
         }
-        print_case(&cases[start..end]);
+        print_case(to, &cases[start..end])?;
         at = end;
     }
-    print_rest(cases, at);
+    print_rest(to, cases, at)
 }
 
-fn main() {
+fn main(rt: HostRuntime) -> io::Result<()> {
     let mut bytes = input();
-    let n = io::read_full(0, &mut bytes);
-    print_cases(&bytes[..n]);
+    let n = room::read_full(&mut rt.stdin(), &mut bytes)?;
+    let mut to = rt.stdout();
+    print_cases(&mut to, &bytes[..n])
 }

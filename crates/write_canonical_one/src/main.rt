@@ -9,7 +9,9 @@ ghost use Rattle.write_canonical_one.specs.Internal.{Held, Roomy};
 
 use canonical::CanonicalAnswer;
 use printing::{print_code, print_unread};
-use room::{input, row_buffer};
+use room::{input, large_buffer, row_buffer};
+use std::io;
+use std::io::Write;
 
 // Writes the canonical form, with room for seven numbers for each 8 bytes and a target as long as the data set: both suffice.
 fn write_roomy(bytes: &[u8], rows: &mut [u32], target: &mut [u8]) -> CanonicalAnswer
@@ -23,39 +25,46 @@ fn write_roomy(bytes: &[u8], rows: &mut [u32], target: &mut [u8]) -> CanonicalAn
     canonical::write_canonical(bytes, rows, target)
 }
 
-fn print_form(target: &[u8], size: usize)
+fn print_form<W: Write>(to: &mut W, target: &[u8], size: usize) -> io::Result<()>
     requires { size ≤ length target.now }
 {
-    io::write_all(1, &target[..size]);
+    to.write_all(&target[..size])
 }
 
-fn print_answer(answer: CanonicalAnswer, target: &[u8])
+fn print_answer<W: Write, E: Write>(
+    to: &mut W,
+    errors: &mut E,
+    answer: CanonicalAnswer,
+    target: &[u8],
+) -> io::Result<()>
     requires { Held answer target.now }
 {
     match answer {
-        CanonicalAnswer::Done(_, size) => print_form(target, size),
-        CanonicalAnswer::Refused(code, offset) => print_unread(2, code, offset),
-        CanonicalAnswer::TooLarge => print_code(2, 7),
-        CanonicalAnswer::NoRoom => print_code(2, 8),
-        CanonicalAnswer::NoTargetRoom(_) => print_code(2, 21),
+        CanonicalAnswer::Done(_, size) => print_form(to, target, size),
+        CanonicalAnswer::Refused(code, offset) => print_unread(errors, code, offset),
+        CanonicalAnswer::TooLarge => print_code(errors, 7),
+        CanonicalAnswer::NoRoom => print_code(errors, 8),
+        CanonicalAnswer::NoTargetRoom(_) => print_code(errors, 21),
     }
 }
 
-fn write_form(bytes: &[u8])
+fn write_form<W: Write, E: Write>(to: &mut W, errors: &mut E, bytes: &[u8]) -> io::Result<()>
     requires { length bytes.now ≤ 65536 }
 {
     let mut rows = row_buffer();
-    let mut target = io::large_buffer();
+    let mut target = large_buffer();
     let answer = write_roomy(bytes, &mut rows, &mut target);
-    print_answer(answer, &target);
+    print_answer(to, errors, answer, &target)
 }
 
-fn main() {
+fn main(rt: HostRuntime) -> io::Result<()> {
     let mut bytes = input();
-    let n = io::read_full(0, &mut bytes);
+    let n = room::read_full(&mut rt.stdin(), &mut bytes)?;
+    let mut to = rt.stdout();
+    let mut errors = rt.stderr();
     if room::MOST < n {
-        io::write_all(2, b"too long: at most 65536 bytes\n");
-        return;
+        errors.write_all(b"too long: at most 65536 bytes\n")?;
+        return Ok(());
     }
-    write_form(&bytes[..n]);
+    write_form(&mut to, &mut errors, &bytes[..n])
 }

@@ -9,6 +9,8 @@ ghost use Rattle.conformance.specs.Judging.{verdict_of};
 ghost use Rattle.judge_small.specs.Printed.{judge_printed};
 
 use room::input;
+use std::io;
+use std::io::Write;
 use verdict::Verdict;
 
 fn slip_of(v: Verdict) -> [u8; 17]
@@ -28,13 +30,15 @@ fn slip_for(bytes: &[u8]) -> [u8; 17]
     slip_of(conformance::verdict_of(judge_small::judge_small(bytes)))
 }
 
-fn main() {
+fn main(rt: HostRuntime) -> io::Result<()> {
     let mut bytes = input();
-    let n = io::read_full(0, &mut bytes);
+    let n = room::read_full(&mut rt.stdin(), &mut bytes)?;
     if room::MOST < n {
-        io::write_all(2, b"too long: at most 65536 bytes\n");
-        return;
+        let mut errors = rt.stderr();
+        errors.write_all(b"too long: at most 65536 bytes\n")?;
+        return Ok(());
     }
     let slip = slip_for(&bytes[..n]);
-    io::write_all(1, &slip);
+    let mut to = rt.stdout();
+    to.write_all(&slip)
 }

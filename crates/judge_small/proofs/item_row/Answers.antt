@@ -1,0 +1,16 @@
+-- The row of node i is number i + 1.
+use native.Mathlib.Omega.{arith}
+use Rattle.node.proofs.Laws as node_laws
+use Rattle.judge_small.proofs.item_row.Goals as goal
+
+pub overflow_add-result : goal.overflow_add-result
+overflow_add-result c =
+    omega (arith, node_laws.within _ c.in-Is.is c.item_at.ensures.below, c.requires.few)
+
+pub returns-in-Is : goal.returns-in-Is
+returns-in-Is c =
+    rw (node_laws.had c.in-Is.is c.item_at.ensures.value)
+
+pub returns-in-None : goal.returns-in-None
+returns-in-None c =
+    rw (node_laws.had-none c.in-None.is c.item_at.ensures.value)

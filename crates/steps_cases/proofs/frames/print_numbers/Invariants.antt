@@ -1,0 +1,11 @@
+-- A value of n bytes has n / 2 numbers.
+use Prim.Native.Nat.{◌-◌}
+use Rattle.steps_cases.proofs.frames.print_numbers.Given as goal
+
+abbrev pub invariant-loop-k : goal.invariant-loop-k
+invariant-loop-k g l =
+    Unit {0}
+
+abbrev pub decreases-loop-k : goal.decreases-loop-k
+decreases-loop-k g l =
+    l.n - l.k

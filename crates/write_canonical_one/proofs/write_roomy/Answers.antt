@@ -1,0 +1,20 @@
+-- The target's length is as it was, so what is written is in it; and both buffers suffice.
+use mathlib.Core.Path.{sym, subst}
+use Rattle.canonical.specs.declared.CanonicalAnswer.{CanonicalAnswer}
+use Rattle.write_canonical_one.specs.Internal.{Held, Roomy}
+use Rattle.write_canonical_one.proofs.Room.{held, roomy}
+use borrow.Author.Rules.{rules}
+use Rattle.write_canonical_one.proofs.write_roomy.Goals as goal
+
+pub returns : goal.returns
+returns c =
+    let a = c.args in
+    let p = c.requires in
+    let e = c.write_canonical.ensures in record {
+      value = e.answers.same;
+      target_after = e.target_after;
+      held = subst (λ (r : CanonicalAnswer). Held r c.write_canonical.new.target) (sym e.answers.same)
+          (held a.bytes.now a.rows.now a.target.now c.write_canonical.new.target (search rules));
+      roomy = subst Roomy (sym e.answers.same)
+          (roomy a.bytes.now a.rows.now a.target.now c.knows_bytes.ensures p.0 p.1);
+    }
