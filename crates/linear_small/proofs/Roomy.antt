@@ -2,14 +2,12 @@
 -- the object was accepted, so that its rows stand in the buffer.
 use mathlib.Core.Path.{◌≡◌, refl, ap, ◌∙◌, subst⁻¹}
 use mathlib.Core.Bool.{Bool, true, false, cond}
-use mathlib.Core.List.{List, [], ◌∷◌}
+use mathlib.Core.List.{List}
 use Prim.Native.Nat.{ℕ, ◌*◌, ◌≤◌}
 use native.Mathlib.Omega.{arith}
 use lib.ListN.{length, take}
 use lib.Dec.{leb}
 use borrow.Author.Tests.{leb-true}
-use types.Run.{OneOf, miss}
-use denote.Enum.Declared.{tag_of}
 use Rattle.dataset.specs.Reading.{reading_of}
 use Rattle.dataset.specs.Answer.{flat, buffer_of, width}
 use Rattle.dataset.specs.Tree.{rows_of}
@@ -25,7 +23,6 @@ use Rattle.linear.specs.declared.LinearAnswer.{LinearAnswer}
 use Rattle.linear.specs.declared.LinearAnswer.TheVariants as linear
 use Rattle.linear.specs.Mapping.{has_linear_item}
 use Rattle.linear.specs.Answer.{entries_of, accepted_answer, answer_for, linear_of, values_by, values_left, fields_of}
-use Rattle.linear.specs.contracts.LinearAnswer.{the_type}
 use Rattle.show_small.specs.declared.Sides.{Sides}
 use Rattle.show_small.specs.Shown.{sides_of, no_sides}
 use Rattle.linear_small.specs.declared.Mapped.{Mapped}
@@ -78,9 +75,9 @@ mapped-sides ns n x e = rw e
 
 -- ---- Every other answer
 
-pub not-mapped : (ns : List Node) (a : LinearAnswer) → OneOf (1 ∷ 2 ∷ 3 ∷ 4 ∷ 5 ∷ 6 ∷ 7 ∷ []) (tag_of the_type a)
+pub not-mapped : (ns : List Node) (a : LinearAnswer) → ((n : ℕ) → a ≡ linear.Mapped n → ⊥)
     → ◌≡◌ {A = Mapped} (record { answer = a; sides = no_sides }) (sized ns a)
-not-mapped ns (linear.Mapped n) h = absurd (miss (1 ∷ 2 ∷ 3 ∷ 4 ∷ 5 ∷ 6 ∷ 7 ∷ []) 0 tt h)
+not-mapped ns (linear.Mapped n) h = absurd (h n refl)
 not-mapped ns (linear.Broken n rule frame) h = refl
 not-mapped ns (linear.Refused code offset) h = refl
 not-mapped ns linear.TooLarge h = refl

@@ -9,66 +9,75 @@ use display::ShowAnswer;
 use printing::{print_broken, print_code, print_field, print_unread};
 use room::input;
 use show_small::Shown;
+use std::io;
+use std::io::{Read, Write};
 
 // The head of the image: its kind, masked or native, its size, and the highest level.
-fn print_head(masked: bool, width: usize, height: usize) {
+fn print_head<W: Write>(to: &mut W, masked: bool, width: usize, height: usize) -> io::Result<()> {
     if masked {
-        io::write_all(1, b"P5\n# masked\n");
+        to.write_all(b"P5\n# masked\n")?;
     } else {
-        io::write_all(1, b"P5\n# native\n");
+        to.write_all(b"P5\n# native\n")?;
     }
-    io::print_decimal(1, width as u64);
-    print_field(1, b"", height);
-    io::write_all(1, b"\n255\n");
+    write!(to, "{width}")?;
+    print_field(to, b"", height)?;
+    to.write_all(b"\n255\n")
 }
 
-fn print_image(masked: bool, width: usize, height: usize, image: &[u8])
+fn print_image<W: Write>(
+    to: &mut W,
+    masked: bool,
+    width: usize,
+    height: usize,
+    image: &[u8],
+) -> io::Result<()>
     requires { height * width ≤ length image.now }
 {
-    print_head(masked, width, height);
+    print_head(to, masked, width, height)?;
     let size = height * width;
-    io::write_all(1, &image[..size]);
+    to.write_all(&image[..size])
 }
 
-fn print_shown(shown: Shown, image: &[u8])
+fn print_shown<W: Write>(to: &mut W, shown: Shown, image: &[u8]) -> io::Result<()>
     requires { shown.sides.height * shown.sides.width ≤ length image.now }
 {
     let answer = shown.answer;
     let sides = shown.sides;
     match answer {
-        ShowAnswer::Drawn(_, masked) => print_image(masked, sides.width, sides.height, image),
-        ShowAnswer::Broken(rows, rule, frame) => print_broken(1, rows, rule, frame),
-        ShowAnswer::Refused(code, offset) => print_unread(1, code, offset),
-        ShowAnswer::TooLarge => print_code(1, 7),
-        ShowAnswer::NoRoom => print_code(1, 8),
-        ShowAnswer::NoFrame => print_code(1, 10),
-        ShowAnswer::NoImageRoom => print_code(1, 11),
+        ShowAnswer::Drawn(_, masked) => print_image(to, masked, sides.width, sides.height, image),
+        ShowAnswer::Broken(rows, rule, frame) => print_broken(to, rows, rule, frame),
+        ShowAnswer::Refused(code, offset) => print_unread(to, code, offset),
+        ShowAnswer::TooLarge => print_code(to, 7),
+        ShowAnswer::NoRoom => print_code(to, 8),
+        ShowAnswer::NoFrame => print_code(to, 10),
+        ShowAnswer::NoImageRoom => print_code(to, 11),
     }
 }
 
 // The image buffer is large enough: an accepted object has at least as many bytes of pixel data.
-fn show_frame(bytes: &[u8], frame: u64)
+fn show_frame<W: Write>(to: &mut W, bytes: &[u8], frame: u64) -> io::Result<()>
     requires { length bytes.now ≤ 65536 }
 {
-    let mut image = io::large_buffer();
+    let mut image = room::large_buffer();
     let shown = show_small::show_small(bytes, frame, &mut image);
-    print_shown(shown, &image);
+    print_shown(to, shown, &image)
 }
 
 // Reads the data set.
-fn show_input(frame: u64) {
+fn show_input<R: Read, W: Write>(from: &mut R, to: &mut W, frame: u64) -> io::Result<()> {
     let mut bytes = input();
-    let n = io::read_full(0, &mut bytes);
+    let n = room::read_full(from, &mut bytes)?;
     if room::MOST < n {
-        io::write_all(1, b"too long: at most 65536 bytes\n");
-        return;
+        to.write_all(b"too long: at most 65536 bytes\n")?;
+        return Ok(());
     }
-    show_frame(&bytes[..n], frame);
+    show_frame(to, &bytes[..n], frame)
 }
 
-fn main() {
-    let FrameArgument::Number(frame) = argument::read_frame() else {
-        return;
+fn main(rt: HostRuntime) -> io::Result<()> {
+    let mut to = rt.stdout();
+    let FrameArgument::Number(frame) = argument::read_frame(&rt, &mut to)? else {
+        return Ok(());
     };
-    show_input(frame);
+    show_input(&mut rt.stdin(), &mut to, frame)
 }

@@ -2,14 +2,12 @@
 -- the object was accepted, so that its rows stand in the buffer.
 use mathlib.Core.Path.{◌≡◌, refl, ap, ◌∙◌, subst⁻¹}
 use mathlib.Core.Bool.{Bool, true, false, cond}
-use mathlib.Core.List.{List, [], ◌∷◌}
+use mathlib.Core.List.{List}
 use Prim.Native.Nat.{ℕ, ◌*◌, ◌≤◌}
 use native.Mathlib.Omega.{arith}
 use lib.ListN.{length, take}
 use lib.Dec.{leb}
 use borrow.Author.Tests.{leb-true}
-use types.Run.{OneOf, miss}
-use denote.Enum.Declared.{tag_of}
 use Rattle.dataset.specs.Reading.{reading_of}
 use Rattle.dataset.specs.Answer.{flat, buffer_of, width}
 use Rattle.dataset.specs.Tree.{rows_of}
@@ -22,7 +20,6 @@ use Rattle.judge_small.proofs.Room.{roomy}
 use Rattle.display.specs.declared.ShowAnswer.{ShowAnswer}
 use Rattle.display.specs.declared.ShowAnswer.TheVariants as shown
 use Rattle.display.specs.Show.{is_frame_of, image_size, picture_of, accepted_answer, answer_for, show_of, image_by, image_of, fields_of}
-use Rattle.display.specs.contracts.ShowAnswer.{the_type}
 use Rattle.conformance.proofs.After.{after-judging}
 use Rattle.show_small.specs.declared.Sides.{Sides}
 use Rattle.show_small.specs.declared.Shown.{Shown}
@@ -73,9 +70,9 @@ drawn-sides ns n m x e = rw e
 
 -- ---- Every other answer
 
-pub not-drawn : (ns : List Node) (a : ShowAnswer) → OneOf (1 ∷ 2 ∷ 3 ∷ 4 ∷ 5 ∷ 6 ∷ []) (tag_of the_type a)
+pub not-drawn : (ns : List Node) (a : ShowAnswer) → ((n : ℕ) (masked : Bool) → a ≡ shown.Drawn n masked → ⊥)
     → ◌≡◌ {A = Shown} (record { answer = a; sides = no_sides }) (sized ns a)
-not-drawn ns (shown.Drawn n masked) h = absurd (miss (1 ∷ 2 ∷ 3 ∷ 4 ∷ 5 ∷ 6 ∷ []) 0 tt h)
+not-drawn ns (shown.Drawn n masked) h = absurd (h n masked refl)
 not-drawn ns (shown.Broken n rule frame) h = refl
 not-drawn ns (shown.Refused code offset) h = refl
 not-drawn ns shown.TooLarge h = refl
