@@ -8,48 +8,50 @@ ghost use Rattle.sheet.specs.Answer.{fields_of};
 
 use room::input;
 use sheet::{Numbers, Sampled, SheetAnswer};
+use std::io;
+use std::io::Write;
 
-fn print_line(n: u64) {
-    io::print_decimal(1, n);
-    io::write_all(1, b"\n");
+fn print_line<W: Write>(to: &mut W, n: u64) -> io::Result<()> {
+    write!(to, "{n}\n")
 }
 
-fn print_numbers(t: Numbers)
+fn print_numbers<W: Write>(to: &mut W, t: Numbers) -> io::Result<()>
     requires { length t.counts ≡ 256 }
 {
     for k in 0..sheet::NUMBERS {
-        print_line(sheet::number_at(t, k));
+        print_line(to, sheet::number_at(t, k))?;
     }
+    Ok(())
 }
 
-fn print_sheet(sampled: Sampled)
+fn print_sheet<W: Write>(to: &mut W, sampled: Sampled) -> io::Result<()>
     requires { ((fields_of sampled.answer).code ≡ 8 → ⊥) × (length sampled.sheet.counts ≡ 256) }
 {
     let answer = sampled.answer;
     let numbers = sampled.sheet;
     match answer {
-        SheetAnswer::Done(_) => print_numbers(numbers),
-        SheetAnswer::Broken(_, _, _) => print_line(9),
-        SheetAnswer::Refused(code, _) => print_line(code as u64),
-        SheetAnswer::TooLarge => print_line(7),
-        SheetAnswer::NoRoom => check::expect(false),
-        SheetAnswer::WrongOrder => print_line(19),
-        SheetAnswer::NoFrame => print_line(10),
+        SheetAnswer::Done(_) => print_numbers(to, numbers),
+        SheetAnswer::Broken(_, _, _) => print_line(to, 9),
+        SheetAnswer::Refused(code, _) => print_line(to, code as u64),
+        SheetAnswer::TooLarge => print_line(to, 7),
+        SheetAnswer::NoRoom => unreachable!(),
+        SheetAnswer::WrongOrder => print_line(to, 19),
+        SheetAnswer::NoFrame => print_line(to, 10),
     }
 }
 
-fn sample(bytes: &[u8])
+fn sample<W: Write>(to: &mut W, bytes: &[u8]) -> io::Result<()>
     requires { length bytes.now ≤ 65536 }
 {
-    print_sheet(sheet_small::sheet_small(bytes));
+    print_sheet(to, sheet_small::sheet_small(bytes))
 }
 
-fn main() {
+fn main(rt: HostRuntime) -> io::Result<()> {
     let mut bytes = input();
-    let n = io::read_full(0, &mut bytes);
+    let n = room::read_full(&mut rt.stdin(), &mut bytes)?;
+    let mut to = rt.stdout();
     if room::MOST < n {
-        print_line(7);
-        return;
+        return print_line(&mut to, 7);
     }
-    sample(&bytes[..n]);
+    sample(&mut to, &bytes[..n])
 }
