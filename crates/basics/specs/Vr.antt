@@ -34,8 +34,8 @@ IS = 0x4953
 abbrev pub LO : ℕ
 LO = 0x4C4F
 
-abbrev pub Lt : ℕ
-Lt = 0x4C54
+abbrev pub LT : ℕ
+LT = 0x4C54
 
 abbrev pub OB : ℕ
 OB = 0x4F42
@@ -109,7 +109,7 @@ long_vrs = OB ∷ OD ∷ OF ∷ OL ∷ OV ∷ OW ∷ SQ ∷ SV ∷ UC ∷ UN ∷
 
 -- VRs with a 16-bit length.
 abbrev pub short_vrs : List ℕ
-short_vrs = AE ∷ AS ∷ AT ∷ CS ∷ DA ∷ DS ∷ DT ∷ FD ∷ FL ∷ IS ∷ LO ∷ Lt ∷ PN ∷ SH ∷ SL ∷ SS ∷ ST ∷ TM ∷ UI ∷ UL ∷ US ∷ []
+short_vrs = AE ∷ AS ∷ AT ∷ CS ∷ DA ∷ DS ∷ DT ∷ FD ∷ FL ∷ IS ∷ LO ∷ LT ∷ PN ∷ SH ∷ SL ∷ SS ∷ ST ∷ TM ∷ UI ∷ UL ∷ US ∷ []
 
 unfoldable pub listed : List ℕ → ℕ → Bool
 listed [] vr = false
