@@ -1,0 +1,9 @@
+pub mod Samples
+pub mod Headers
+pub mod Bytes
+pub mod Sound
+pub mod Heads
+pub mod Complete
+pub mod Unique
+pub mod Refusals
+pub mod Places
