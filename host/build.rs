@@ -52,8 +52,7 @@ fn tables(dictionary: &str) -> String {
     source
 }
 
-/// Where the rules' sentences stand, from the host's folder. Each is an arm of a match: `9 => say(to, b"Samples per Pixel (0028,0002) US must be 1."),`
-/// on several lines where the text is long.
+/// Where the rules' sentences stand, from the host's folder. Each is a line of a table: `    "Samples per Pixel (0028,0002) US must be 1.",`.
 const SENTENCES: &str = "../crates/judge_one/src/sentence.rt";
 
 /// The header, from the host's folder. It says how many rules there are: `#define XA_RULES 39`.
@@ -66,28 +65,22 @@ pub fn count(header: &str) -> Option<usize> {
 
 /// The sentences of all rules in their order; or what is not as expected.
 pub fn sentences(source: &str, rules: usize) -> Result<Vec<&str>, String> {
+    let start = format!("\nconst SENTENCES: [&str; {rules}] = [\n");
+    let table = source.split_once(&start).and_then(|(_, rest)| rest.split_once("\n];\n"));
+    let Some((table, _)) = table else {
+        return Err(format!("it has no table of {rules} sentences"));
+    };
     let mut found = Vec::new();
-    let mut arms = source.split(" => say(");
-    let mut before = arms.next().unwrap_or_default();
-    for arm in arms {
-        let number = before.rsplit(char::is_whitespace).next().unwrap_or_default();
-        let text = arm.trim_start().strip_prefix("to,").map(str::trim_start);
-        let text = text.and_then(|text| text.strip_prefix("b\"")).and_then(|text| text.split_once('"'));
-        match text {
-            _ if number != (found.len() + 1).to_string() => {
-                return Err(format!("rule {} is due, and the arm is that of {number:?}", found.len() + 1));
-            }
-            Some((text, rest)) if rest.trim_start().trim_start_matches(',').trim_start().starts_with(')') => {
-                let plain = text.ends_with('.')
-                    && text.bytes().all(|letter| (b' '..=b'~').contains(&letter) && letter != b'\\');
-                found.push(text);
-                if !plain {
-                    return Err(format!("the sentence of rule {number} is no plain text with a full stop at its end"));
-                }
-            }
-            _ => return Err(format!("rule {number} does not say one plain text")),
+    for (line, number) in table.lines().zip(1..) {
+        let Some(text) = line.trim_start().strip_prefix('"').and_then(|text| text.strip_suffix("\",")) else {
+            return Err(format!("rule {number} is not one plain text"));
+        };
+        let plain = text.ends_with('.')
+            && text.bytes().all(|letter| (b' '..=b'~').contains(&letter) && letter != b'\\' && letter != b'"');
+        if !plain {
+            return Err(format!("the sentence of rule {number} is no plain text with a full stop at its end"));
         }
-        before = arm;
+        found.push(text);
     }
     match found.len() {
         count if count == rules => Ok(found),

@@ -80,13 +80,14 @@ mod tests {
         let of = |source: &str| build::sentences(source, COUNT).map(|found| found.join("\n"));
         assert_eq!(of(source).unwrap(), RULES.join("\n"));
         for (old, new) in [
-            ("9 => say(to, b\"Samples", "40 => say(to, b\"Samples"),
-            ("9 => say(to, b\"Samples", "9 => tell(to, b\"Samples"),
-            ("say(to, b\"Samples", "say(to, \"Samples"),
-            ("US must be 1.\"),", "US must be 1\"),"),
-            ("US must be 1.\"),", "US must be \\x31.\"),"),
-            ("US must be 1.\"),", "US must be 1.\", 1),"),
-            (&format!("{COUNT} => say("), "0 => say("),
+            ("    \"Samples", "    9 => \"Samples"),
+            ("    \"Samples", "    b\"Samples"),
+            ("    \"Samples", "    Samples"),
+            ("US must be 1.\",", "US must be 1\","),
+            ("US must be 1.\",", "US must be \\x31.\","),
+            ("US must be 1.\",", "US must be 1.\", \"So it is.\","),
+            ("    \"Samples per Pixel (0028,0002) US must be 1.\",\n", ""),
+            (&format!("&str; {COUNT}]"), "&str; 0]"),
         ] {
             assert!(source.contains(old), "{old}");
             assert!(of(&source.replacen(old, new, 1)).is_err(), "{new}");

@@ -29,7 +29,7 @@ IS_INPUT = "cannot be written: it is the input itself; name another file"
 
 # What each rule asks, by its number, from the source of the program judge_one.
 with open(os.path.join(ROOT, "crates", "judge_one", "src", "sentence.rt"), encoding="ascii") as source:
-    SENTENCES = {int(rule): said for rule, said in re.findall(r'(\d+) => say\(\s*to,\s*b"([^"]*)"', source.read())}
+    SENTENCES = dict(enumerate(re.findall(r'^    "(.*)",$', source.read().split("const SENTENCES:")[1].split("];")[0], re.MULTILINE), 1))
 
 
 # ---------------------------------------------------------------------------------------------------------------------

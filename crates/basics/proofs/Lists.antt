@@ -1,4 +1,4 @@
--- What goes along a list takes one element on each step, and two lists are the same just where each step finds the same.
+-- What goes along a list takes one element on each step; and what it is for two lists to be the same.
 use mathlib.Core.Path.{◌≡◌, refl, ap}
 use mathlib.Core.Bool.{true, false, and-false}
 use mathlib.Core.List.{List, [], ◌∷◌}
@@ -8,7 +8,8 @@ use native.Mathlib.Numerals.{add-one}
 use lib.ListN.{length, get_or, take, drop, drop_of_length-le, length-drop}
 use lib.Seq.{drop-cons, take_all}
 use lib.Dec.{eqb}
-use borrow.Author.Tests.{eq-eqb, ne_eqb, eqb-true}
+use borrow.Author.Tests.{eqb-true}
+use Rattle.std.specs.Cmp.Lexicographic.{pointwise}
 use Rattle.basics.specs.Bytes.{same_bytes}
 use Rattle.basics.proofs.Tests.{false-is-true, and_both}
 
@@ -25,18 +26,13 @@ to_end v i = take_all (length v - i) (drop i v) (simp length-drop (omega arith))
 
 -- ---- The same bytes
 
-module _ (a b : List ℕ) (i : ℕ) (l : i < length a) (m : i < length b) where
-  pub same_next : get_or a i 0 ≡ get_or b i 0 → same_bytes (drop i a) (drop i b) ≡ same_bytes (drop (i + 1) a) (drop (i + 1) b)
-  unfolding same_bytes
-  same_next e = rw (from_next a i l, from_next b i m, eq-eqb (get_or a i 0) (get_or b i 0) e)
-
-  pub same-no : (get_or a i 0 ≡ get_or b i 0 → ⊥) → same_bytes (drop i a) (drop i b) ≡ false
-  unfolding same_bytes
-  same-no e = rw (from_next a i l, from_next b i m, ne_eqb (get_or a i 0) (get_or b i 0) e)
-
-pub same_end : (a b : List ℕ) (i : ℕ) → length a ≤ i → length b ≤ i → same_bytes (drop i a) (drop i b) ≡ true
+-- What `==` on slices computes is that definition.
+pub pointwise-same : (a b : List ℕ) → pointwise eqb a b ≡ same_bytes a b
 unfolding same_bytes
-same_end a b i l m = rw (from_end a i l, from_end b i m)
+pointwise-same [] [] = refl
+pointwise-same [] (y ∷ ys) = refl
+pointwise-same (x ∷ xs) [] = refl
+pointwise-same (x ∷ xs) (y ∷ ys) = rw (pointwise-same xs ys)
 
 pub other-lengths : (a b : List ℕ) → (length a ≡ length b → ⊥) → same_bytes a b ≡ false
 unfolding same_bytes

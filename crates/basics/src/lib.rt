@@ -3,7 +3,7 @@
 #![tactic(auto)]
 
 ghost use Rattle.std.specs.Prelude.{◌≡◌, ◌+◌, ◌-◌, ◌≤◌, ◌<◌, length};
-ghost use Rattle.basics.specs.Bytes.{same_bytes, le16, le32, tag_at, vr_at};
+ghost use Rattle.basics.specs.Bytes.{le16, le32, tag_at, vr_at};
 ghost use Rattle.basics.specs.Vr.{form_of};
 ghost use Rattle.basics.specs.Internal.{FormsAfter};
 
@@ -24,12 +24,6 @@ pub const MOST_MASKS: usize = 16;
 
 pub const MOST_MASK_FRAMES: usize = 64;
 
-pub fn wide(x: u8) -> usize
-    ensures { (result ≡ x) × (result < 256) }
-{
-    x as usize
-}
-
 pub fn wider(x: u32) -> usize
     ensures { result ≡ x }
 {
@@ -40,39 +34,21 @@ pub fn wider(x: u32) -> usize
 pub fn less(a: usize, b: usize) -> usize
     ensures { result ≡ a - b }
 {
-    if b <= a { a - b } else { 0 }
-}
-
-// Whether two runs of bytes are the same.
-pub fn same_bytes(a: &[u8], b: &[u8]) -> bool
-    ensures { result ≡ same_bytes a.now b.now }
-{
-    let n = a.len();
-    if n != b.len() {
-        return false;
-    }
-    let mut i = 0;
-    while i < n {
-        if a[i] != b[i] {
-            return false;
-        }
-        i += 1;
-    }
-    true
+    a.saturating_sub(b)
 }
 
 pub fn u16_at(s: &[u8], p: usize) -> usize
     requires { p + 2 ≤ length s.now }
     ensures { (result ≡ le16 s.now p) × (result < 65536) }
 {
-    wide(s[p]) + 256 * wide(s[p + 1])
+    usize::from(u16::from_le_bytes([s[p], s[p + 1]]))
 }
 
 pub fn u32_at(s: &[u8], p: usize) -> usize
     requires { p + 4 ≤ length s.now }
     ensures { (result ≡ le32 s.now p) × (result < 4294967296) }
 {
-    u16_at(s, p) + 65536 * u16_at(s, p + 2)
+    u32::from_le_bytes([s[p], s[p + 1], s[p + 2], s[p + 3]]) as usize
 }
 
 pub fn tag_at(s: &[u8], p: usize) -> usize
@@ -86,7 +62,7 @@ pub fn vr_at(s: &[u8], p: usize) -> usize
     requires { p + 2 ≤ length s.now }
     ensures { (result ≡ vr_at s.now p) × (result < 65536) }
 {
-    256 * wide(s[p]) + wide(s[p + 1])
+    usize::from(u16::from_be_bytes([s[p], s[p + 1]]))
 }
 
 // The forms of the VRs with a first letter: two bits for each second letter, from 64 on, lowest first. This compiles to a table; a
@@ -110,7 +86,8 @@ fn forms_after(first: usize) -> u64
     }
 }
 
-// The form of a VR: 2 with a 32-bit length, 1 with a 16-bit length, 0 if it is not listed. SQ is tested first, since the readers test for
+// The form of a VR, the number that `form_of` of specs/ gives, by which the grammar and the rows are defined: 2 with a 32-bit length,
+// 1 with a 16-bit length, 0 if it is not listed. SQ is tested first, since the readers test for
 // it again.
 pub fn vr_form(vr: usize) -> usize
     ensures { result ≡ form_of vr }

@@ -17,7 +17,7 @@ pub fn host_version() -> u32
 
 // What every call answers. Fields that a code does not name are 0; the definitions `fields_of` say which code names which.
 #[repr(C)]
-#[derive(Clone, Copy)]
+#[derive(Clone, Copy, Default)]
 pub struct Answer {
     pub code: u32,
     pub offset: u32,
@@ -34,12 +34,7 @@ pub fn code_alone(code: u32) -> Answer
 {
     Answer {
         code,
-        offset: 0,
-        rows: 0,
-        rule: 0,
-        frame: 0,
-        masked: 0,
-        searches: 0,
+        ..Answer::default()
     }
 }
 
@@ -51,11 +46,7 @@ pub fn refused_at(code: usize, offset: usize) -> Answer
     Answer {
         code: code as u32,
         offset: offset as u32,
-        rows: 0,
-        rule: 0,
-        frame: 0,
-        masked: 0,
-        searches: 0,
+        ..Answer::default()
     }
 }
 
@@ -65,21 +56,9 @@ pub fn done_with(rows: usize) -> Answer
     ensures { result ≡ hosted (counted rows) }
 {
     Answer {
-        code: 0,
-        offset: 0,
         rows: rows as u32,
-        rule: 0,
-        frame: 0,
-        masked: 0,
-        searches: 0,
+        ..Answer::default()
     }
-}
-
-// 1 for a masked frame, 0 for a native one.
-fn masked_number(masked: bool) -> u32
-    ensures { result ≡ cond masked 1 0 }
-{
-    if masked { 1 } else { 0 }
 }
 
 // Done, with the number of rows and whether the frame is masked.
@@ -88,13 +67,9 @@ pub fn drawn_with(rows: usize, masked: bool) -> Answer
     ensures { result ≡ hosted (drawn rows (cond masked 1 0)) }
 {
     Answer {
-        code: 0,
-        offset: 0,
         rows: rows as u32,
-        rule: 0,
-        frame: 0,
-        masked: masked_number(masked),
-        searches: 0,
+        masked: u32::from(masked),
+        ..Answer::default()
     }
 }
 
@@ -105,12 +80,10 @@ pub fn broken_at(rows: usize, rule: usize, frame: usize) -> Answer
 {
     Answer {
         code: 9,
-        offset: 0,
         rows: rows as u32,
         rule: rule as u32,
         frame: frame as u32,
-        masked: 0,
-        searches: 0,
+        ..Answer::default()
     }
 }
 
@@ -119,12 +92,7 @@ pub fn with_searches(answer: Answer, searches: usize) -> Answer
     ensures { result ≡ with_searches searches answer }
 {
     Answer {
-        code: answer.code,
-        offset: answer.offset,
-        rows: answer.rows,
-        rule: answer.rule,
-        frame: answer.frame,
-        masked: answer.masked,
         searches: searches as u64,
+        ..answer
     }
 }

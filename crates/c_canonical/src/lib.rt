@@ -6,7 +6,7 @@ ghost use Rattle.canonical.specs.Answer.{fields_of};
 ghost use Rattle.c_canonical.specs.Rewritten.{rewritten_of};
 ghost use Rattle.c_canonical.specs.Internal.{RewrittenFits32};
 
-use canonical::CanonicalAnswer;
+use canonical::{CanonicalError, Written};
 
 // What writing answers with. Fields that a code does not name are 0.
 #[repr(C)]
@@ -19,40 +19,19 @@ pub struct Rewritten {
 }
 
 // The answer as the struct for hosts.
-pub fn canonical_numbers(answer: CanonicalAnswer) -> Rewritten
+pub fn canonical_numbers(answer: Result<Written, CanonicalError>) -> Rewritten
     requires { RewrittenFits32 (fields_of answer) }
     ensures { result ≡ rewritten_of (fields_of answer) }
 {
-    match answer {
-        CanonicalAnswer::Done(n, size) => Rewritten {
-            code: 0,
-            offset: 0,
-            rows: n as u32,
-            length: size as u32,
-        },
-        CanonicalAnswer::NoTargetRoom(size) => Rewritten {
-            code: 21,
-            offset: 0,
-            rows: 0,
-            length: size as u32,
-        },
-        CanonicalAnswer::Refused(code, offset) => Rewritten {
-            code: code as u32,
-            offset: offset as u32,
-            rows: 0,
-            length: 0,
-        },
-        CanonicalAnswer::TooLarge => Rewritten {
-            code: 7,
-            offset: 0,
-            rows: 0,
-            length: 0,
-        },
-        CanonicalAnswer::NoRoom => Rewritten {
-            code: 8,
-            offset: 0,
-            rows: 0,
-            length: 0,
-        },
+    let (read, size) = match answer {
+        Ok(written) => (c_answers::done_with(written.rows), written.bytes),
+        Err(CanonicalError::NoTargetRoom(size)) => (c_answers::code_alone(21), size),
+        Err(CanonicalError::Unread(error)) => (c_read::error_numbers(error), 0),
+    };
+    Rewritten {
+        code: read.code,
+        offset: read.offset,
+        rows: read.rows,
+        length: size as u32,
     }
 }

@@ -1,5 +1,6 @@
 -- The numbers of every answer of `compare` fit 32 bits: they are the judge's, or places and counts of a picture's cells, and a picture has
 -- at most 65,535 × 65,535 of them.
+use Rattle.std.specs.Prelude.{Option, Some, None, Result, Ok, Err}
 use mathlib.Core.Path.{◌≡◌, refl}
 use mathlib.Core.Bool.{Bool, true, false, cond, ◌&&◌}
 use mathlib.Core.List.{List}
@@ -10,24 +11,21 @@ use lib.Dec.{eqb, leb}
 use lib.ListN.{length}
 use Rattle.value.specs.Number.{number_or0}
 use Rattle.basics.specs.Bytes.{IsBytes}
-use Rattle.basics.specs.Fields.{Fields, code_alone, placed, counted, broken}
-use Rattle.value.specs.declared.Num.{Num}
-use Rattle.value.specs.declared.Num.TheVariants.{Is, None}
+use Rattle.basics.specs.Fields.{Fields, code_alone, counted}
 use Rattle.node.specs.Nodes.{Node, nodes_of, root}
 use Rattle.basics.specs.Tags
 use Rattle.element.specs.Elements.{us_in}
-use Rattle.conformance.specs.declared.JudgeAnswer.{JudgeAnswer}
-use Rattle.conformance.specs.declared.JudgeAnswer.TheVariants as judged
-use Rattle.conformance.specs.Judging.{judge_of}
-use Rattle.conformance.specs.Judging as judging
+use Rattle.conformance.specs.declared.NotAccepted.{NotAccepted}
+use Rattle.conformance.specs.Judging.{accept_of, refusal_fields}
 use Rattle.display.specs.Show.{is_frame_of, image_size, picture_of}
 use Rattle.display.proofs.Small.{us-in-small}
-use Rattle.compare.specs.declared.CompareAnswer.TheVariants as answer
+use Rattle.compare.specs.declared.Comparison.TheVariants as comparison
+use Rattle.compare.specs.declared.CompareError.TheVariants as error
 use Rattle.differences.specs.Differences.{is_off, how_many, first_off}
 use Rattle.compare.specs.Answer.{compared_by, accepted_answer, answer_for, compare_of, without_cell, fields_of}
 use Rattle.c_answers.specs.Internal.{Fits32}
 use Rattle.c_answers.proofs.Fits.{alone-fits}
-use Rattle.c_judge.proofs.Fits.{judge-fits}
+use Rattle.c_judge.proofs.Fits.{AcceptFits, accept-fits}
 use Rattle.c_compare.specs.Internal.{CompareFits32}
 
 -- ---- Places and counts
@@ -50,8 +48,8 @@ first-most off (suc n) = go (off n && eqb (how_many off n) 0) (first-most off n)
     go true h = omega arith
     go false h = omega arith
 
-number_small : (n : Num) → ((k : ℕ) → n ≡ Is k → k < 65536) → number_or0 n < 65536
-number_small (Is k) h = h k refl
+number_small : (n : Option ℕ) → ((k : ℕ) → n ≡ Some k → k < 65536) → number_or0 n < 65536
+number_small (Some k) h = h k refl
 number_small None h = omega arith
 
 size_small : (s : List ℕ) → IsBytes s → image_size (nodes_of s) < 4294967296
@@ -68,11 +66,11 @@ size_small s b =
 
 -- ---- Answers
 
-by-places : (n : ℕ) (off : ℕ → Bool) (size : ℕ) → Fits32 (counted n) → size < 4294967296 → CompareFits32 (fields_of (compared_by n off size))
+by-places : (n : ℕ) (off : ℕ → Bool) (size : ℕ) → Fits32 (counted n) → size < 4294967296 → CompareFits32 (fields_of (Ok (compared_by n off size)))
 unfolding compared_by
 by-places n off size h k = go (eqb (how_many off size) 0)
   where
-    go : (b : Bool) → CompareFits32 (fields_of (cond b (answer.Same n) (answer.Differs n (first_off off size) (how_many off size))))
+    go : (b : Bool) → CompareFits32 (fields_of (Ok (cond b (comparison.Same n) (comparison.Differs n (first_off off size) (how_many off size)))))
     go true = record { answer = h; first = omega arith; count = omega arith }
     go false = record { answer = h; first = omega (arith, first-most off size); count = omega (arith, count_most off size) }
 
@@ -87,24 +85,21 @@ by_tests ns f cells t n h k =
     go (is_frame_of ns f) (eqb (length cells) (image_size ns)) (leb t 255)
     (by-places n (is_off t (picture_of ns f).samples cells) (image_size ns) h k)
   where
-    go : (p q r : Bool) → CompareFits32 (fields_of (compared_by n (is_off t (picture_of ns f).samples cells) (image_size ns)))
+    go : (p q r : Bool) → CompareFits32 (fields_of (Ok (compared_by n (is_off t (picture_of ns f).samples cells) (image_size ns))))
         → CompareFits32 (fields_of (cond p
-        (cond q (cond r (compared_by n (is_off t (picture_of ns f).samples cells) (image_size ns)) answer.WrongTolerance) answer.WrongSize)
-        answer.NoFrame))
+        (cond q (cond r (Ok (compared_by n (is_off t (picture_of ns f).samples cells) (image_size ns))) (Err error.WrongTolerance)) (Err error.WrongSize))
+        (Err error.NoFrame)))
     go true true true w = w
     go true true false w = plain_fits (code_alone 23) (alone-fits 23 (omega arith))
     go true false r w = plain_fits (code_alone 22) (alone-fits 22 (omega arith))
     go false q r w = plain_fits (code_alone 10) (alone-fits 10 (omega arith))
 
-by-judge : (ns : List Node) (f : ℕ) (cells : List ℕ) (t : ℕ) (j : JudgeAnswer) → image_size ns < 4294967296 → Fits32 (judging.fields_of j)
-    → CompareFits32 (fields_of (answer_for ns f cells t j))
-by-judge ns f cells t (judged.Accepted n) k h = by_tests ns f cells t n h k
-by-judge ns f cells t (judged.Broken n rule frame) k h = plain_fits (broken n rule frame) h
-by-judge ns f cells t (judged.Refused code offset) k h = plain_fits (placed code offset) h
-by-judge ns f cells t judged.TooLarge k h = plain_fits (code_alone 7) h
-by-judge ns f cells t judged.NoRoom k h = plain_fits (code_alone 8) h
+by-judge : (ns : List Node) (f : ℕ) (cells : List ℕ) (t : ℕ) (a : Result ℕ NotAccepted) → image_size ns < 4294967296 → AcceptFits a
+    → CompareFits32 (fields_of (answer_for ns f cells t a))
+by-judge ns f cells t (Ok n) k h = by_tests ns f cells t n h k
+by-judge ns f cells t (Err e) k h = plain_fits (refusal_fields e) h
 
 pub compare-fits : (s : List ℕ) → IsBytes s → (f : ℕ) (cells : List ℕ) (t : ℕ) (buffer : List ℕ)
     → CompareFits32 (fields_of (compare_of s f cells t buffer))
 unfolding compare_of
-compare-fits s b f cells t buffer = by-judge (nodes_of s) f cells t (judge_of s buffer) (size_small s b) (judge-fits s buffer)
+compare-fits s b f cells t buffer = by-judge (nodes_of s) f cells t (accept_of s buffer) (size_small s b) (accept-fits s buffer)

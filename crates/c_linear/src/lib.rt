@@ -8,22 +8,19 @@ ghost use Rattle.c_answers.specs.Host.{hosted};
 ghost use Rattle.c_answers.specs.Internal.{Fits32};
 
 use c_answers::Answer;
-use linear::LinearAnswer;
+use linear::LinearError;
 
 // The answer as the struct for hosts.
-pub fn linear_numbers(answer: LinearAnswer) -> Answer
+pub fn linear_numbers(answer: Result<usize, LinearError>) -> Answer
     requires { Fits32 (fields_of answer) }
     ensures { result ≡ hosted (fields_of answer) }
 {
     match answer {
-        LinearAnswer::Mapped(n) => c_answers::done_with(n),
-        LinearAnswer::Broken(n, rule, broken) => c_answers::broken_at(n, rule, broken),
-        LinearAnswer::Refused(code, offset) => c_answers::refused_at(code, offset),
-        LinearAnswer::TooLarge => c_answers::code_alone(7),
-        LinearAnswer::NoRoom => c_answers::code_alone(8),
-        LinearAnswer::NoFrame => c_answers::code_alone(10),
-        LinearAnswer::NoItem => c_answers::code_alone(20),
-        LinearAnswer::NoValuesRoom => c_answers::code_alone(11),
+        Ok(n) => c_answers::done_with(n),
+        Err(LinearError::Refused(refusal)) => c_judge::refusal_numbers(refusal),
+        Err(LinearError::NoFrame) => c_answers::code_alone(10),
+        Err(LinearError::NoItem) => c_answers::code_alone(20),
+        Err(LinearError::NoValuesRoom) => c_answers::code_alone(11),
     }
 }
 

@@ -11,7 +11,7 @@ ghost use Rattle.c_sheet.specs.Internal.{SheetFits32};
 ghost use Rattle.c_sheet.specs.Sheet.{sheet_fields, holds_sheet, sheet_after};
 
 use c_answers::Answer;
-use sheet::{Numbers, Sampled, SheetAnswer};
+use sheet::{Numbers, Sampled, SheetError};
 
 // Puts the numbers of a sheet, in the order named, into a buffer that holds them.
 fn put_numbers(t: Numbers, buffer: &mut [u64])
@@ -38,24 +38,16 @@ fn put_sheet(t: Numbers, buffer: &mut [u64]) -> bool
 }
 
 // The answer as the struct for hosts; `room` says whether the buffer holds a sheet.
-fn sheet_answer(answer: SheetAnswer, room: bool) -> Answer
+fn sheet_answer(answer: Result<usize, SheetError>, room: bool) -> Answer
     requires { Fits32 (fields_of answer) }
     ensures { result ≡ hosted (sheet_fields room answer) }
 {
     match answer {
-        SheetAnswer::Done(n) => {
-            if room {
-                c_answers::done_with(n)
-            } else {
-                c_answers::code_alone(11)
-            }
-        }
-        SheetAnswer::Broken(n, rule, broken) => c_answers::broken_at(n, rule, broken),
-        SheetAnswer::Refused(code, offset) => c_answers::refused_at(code, offset),
-        SheetAnswer::TooLarge => c_answers::code_alone(7),
-        SheetAnswer::NoRoom => c_answers::code_alone(8),
-        SheetAnswer::WrongOrder => c_answers::code_alone(19),
-        SheetAnswer::NoFrame => c_answers::code_alone(10),
+        Ok(n) if room => c_answers::done_with(n),
+        Ok(_) => c_answers::code_alone(11),
+        Err(SheetError::Refused(refusal)) => c_judge::refusal_numbers(refusal),
+        Err(SheetError::WrongOrder) => c_answers::code_alone(19),
+        Err(SheetError::NoFrame) => c_answers::code_alone(10),
     }
 }
 
@@ -65,8 +57,6 @@ pub fn sheet_numbers(sampled: Sampled, buffer: &mut [u64]) -> Answer
     ensures value { result ≡ hosted (sheet_fields (holds_sheet buffer.old) sampled.answer) }
     ensures buffer_after { buffer.new ≡ sheet_after sampled.sheet buffer.old }
 {
-    let answer = sampled.answer;
-    let numbers = sampled.sheet;
-    let room = put_sheet(numbers, buffer);
-    sheet_answer(answer, room)
+    let room = put_sheet(sampled.sheet, buffer);
+    sheet_answer(sampled.answer, room)
 }

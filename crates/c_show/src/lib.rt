@@ -7,20 +7,17 @@ ghost use Rattle.c_answers.specs.Host.{hosted};
 ghost use Rattle.c_answers.specs.Internal.{Fits32};
 
 use c_answers::Answer;
-use display::ShowAnswer;
+use display::{Drawn, ShowError};
 
 // The answer as the struct for hosts.
-pub fn show_numbers(answer: ShowAnswer) -> Answer
+pub fn show_numbers(answer: Result<Drawn, ShowError>) -> Answer
     requires { Fits32 (fields_of answer) }
     ensures { result ≡ hosted (fields_of answer) }
 {
     match answer {
-        ShowAnswer::Drawn(n, masked) => c_answers::drawn_with(n, masked),
-        ShowAnswer::Broken(n, rule, broken) => c_answers::broken_at(n, rule, broken),
-        ShowAnswer::Refused(code, offset) => c_answers::refused_at(code, offset),
-        ShowAnswer::TooLarge => c_answers::code_alone(7),
-        ShowAnswer::NoRoom => c_answers::code_alone(8),
-        ShowAnswer::NoFrame => c_answers::code_alone(10),
-        ShowAnswer::NoImageRoom => c_answers::code_alone(11),
+        Ok(drawn) => c_answers::drawn_with(drawn.rows, drawn.masked),
+        Err(ShowError::Refused(refusal)) => c_judge::refusal_numbers(refusal),
+        Err(ShowError::NoFrame) => c_answers::code_alone(10),
+        Err(ShowError::NoImageRoom) => c_answers::code_alone(11),
     }
 }

@@ -1,14 +1,13 @@
 // Verdict slips, for hosts in C: the two calls with verdicts as numbers.
 #![tactic(auto)]
 
-ghost use Rattle.std.specs.Prelude.{◌≡◌, ◌<◌};
+ghost use Rattle.std.specs.Prelude.{◌≡◌, ◌<◌, Ok};
 ghost use Rattle.slip.specs.Slip.{read_of, read_slip_fields, write_of, write_slip_fields, slip_buffer};
-ghost use Rattle.c_slips.specs.Slips.{count_in, verdict_in, known_number, rows_number, hosted_slip, verdict_answer};
+ghost use Rattle.c_slips.specs.Slips.{count_in, verdict_in, rows_number, hosted_slip, verdict_answer};
 ghost use Rattle.c_slips.specs.Internal.{VerdictFits32};
 
 use c_answers::Answer;
-use slip::{SlipAnswer, WriteAnswer};
-use verdict::{RowCount, Verdict};
+use verdict::Verdict;
 
 // The row count of a verdict that does not know it: no verdict has that many rows.
 const NOT_KNOWN: u32 = 4_294_967_295;
@@ -23,26 +22,22 @@ pub struct Slip {
     pub verdict: Answer,
 }
 
-fn count_in(known: u32, rows: u32) -> RowCount
+fn count_in(known: u32, rows: u32) -> Option<usize>
     ensures { result ≡ count_in known rows }
 {
-    if known == 0 {
-        RowCount::NotKnown
-    } else {
-        RowCount::Known(rows as usize)
-    }
+    (known != 0).then_some(rows as usize)
 }
 
+#[tactic(auto, unfolding(crate::specs::Slips::verdict_in))]
 fn verdict_in(verdict: Answer, known: u32) -> Verdict
     ensures { result ≡ verdict_in verdict known }
 {
-    let rows = count_in(known, verdict.rows);
     Verdict {
         code: verdict.code as usize,
         rule: verdict.rule as usize,
         frame: verdict.frame as usize,
         offset: verdict.offset as usize,
-        rows,
+        rows: count_in(known, verdict.rows),
     }
 }
 
@@ -53,28 +48,16 @@ pub fn write_slip(verdict: Answer, known: u32, slip: &mut [u8]) -> u32
     ensures slip_after { slip.new ≡ slip_buffer (verdict_in verdict known) slip.old }
 {
     match slip::write_slip(verdict_in(verdict, known), slip) {
-        WriteAnswer::Written => 0,
-        WriteAnswer::Refused(code) => code as u32,
+        Ok(()) => 0,
+        Err(error) => error.code().into(),
     }
 }
 
-fn known_number(rows: RowCount) -> u32
-    ensures { result ≡ known_number rows }
-{
-    match rows {
-        RowCount::Known(_) => 1,
-        RowCount::NotKnown => 0,
-    }
-}
-
-fn rows_number(rows: RowCount) -> u32
+fn rows_number(rows: Option<usize>) -> u32
     requires { rows_number rows < 4294967296 }
     ensures { result ≡ rows_number rows }
 {
-    match rows {
-        RowCount::Known(n) => n as u32,
-        RowCount::NotKnown => NOT_KNOWN,
-    }
+    rows.map_or(NOT_KNOWN, |n| n as u32)
 }
 
 // A verdict whose numbers fit 32 bits, as an answer.
@@ -82,27 +65,24 @@ fn answer_of(v: Verdict) -> Answer
     requires { VerdictFits32 v }
     ensures { result ≡ verdict_answer v }
 {
-    let rows = v.rows;
     Answer {
         code: v.code as u32,
         offset: v.offset as u32,
-        rows: rows_number(rows),
+        rows: rows_number(v.rows),
         rule: v.rule as u32,
         frame: v.frame as u32,
-        masked: 0,
-        searches: 0,
+        ..Answer::default()
     }
 }
 
 // A slip that reads well.
 fn slip_of(v: Verdict) -> Slip
     requires { VerdictFits32 v }
-    ensures { result ≡ hosted_slip (read_slip_fields (SlipAnswer.Read v)) }
+    ensures { result ≡ hosted_slip (read_slip_fields (Ok v)) }
 {
-    let rows = v.rows;
     Slip {
         code: 0,
-        known: known_number(rows),
+        known: u32::from(v.rows.is_some()),
         verdict: answer_of(v),
     }
 }
@@ -112,9 +92,9 @@ pub fn read_slip(slip: &[u8]) -> Slip
     ensures { result ≡ hosted_slip (read_slip_fields (read_of slip.now)) }
 {
     match slip::read_slip(slip) {
-        SlipAnswer::Read(v) => slip_of(v),
-        SlipAnswer::Refused(code) => Slip {
-            code: code as u32,
+        Ok(v) => slip_of(v),
+        Err(error) => Slip {
+            code: error.code().into(),
             known: 0,
             verdict: c_answers::code_alone(0),
         },

@@ -199,7 +199,6 @@ pub extern "C" fn xa_canonical(bytes: &[u8], rows: &mut [u32], target: &mut [u8]
     ensures rows_after { rows.new ≡ buffer_of (reading_of bytes.now) rows.old }
     ensures target_after { target.new ≡ target_of bytes.now rows.old target.old }
 {
-    canonical::knows_bytes(bytes);
     c_canonical::canonical_numbers(canonical::write_canonical(bytes, rows, target))
 }
 

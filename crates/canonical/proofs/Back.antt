@@ -1,4 +1,6 @@
 -- From the bytes of a shape to their reading: what stands at each header, then level by level.
+use Rattle.std.specs.Prelude.{Result, Ok, Err}
+use Rattle.dataset.specs.declared.Fault.{Fault}
 use mathlib.Core.Path.{◌≡◌, refl, sym, ap, ◌∙◌, subst}
 use mathlib.Core.Bool.{Bool, true, false}
 use Prim.Native.Nat.{ℕ, zero, suc, ◌+◌, ◌-◌, ◌*◌, ◌/◌, ◌%◌, ◌≤◌, ◌<◌}
@@ -9,6 +11,7 @@ use mathlib.Core.List.{List, [], ◌∷◌, ◌++◌, map, append_assoc, append-
 use lib.ListN.{length, get_or, drop, length-append, length-map}
 use lib.Seq.{take_at, drop_at, drop-drop, get_or-drop}
 use Rattle.dataset.specs.declared.Cursor.{Cursor}
+use Rattle.dataset.specs.declared.Fault.TheVariants.{TooDeep}
 use Rattle.dataset.specs.declared.Head.{Head}
 use Rattle.dataset.specs.declared.Head.TheVariants as head
 use Rattle.basics.specs.Bytes.{le16, le32, tag_at, vr_at, le}
@@ -17,7 +20,8 @@ use Rattle.dataset.specs.Header.{when, undefined, cursor, header_by, nested_by, 
 use Rattle.basics.specs.Tags.{item_tag}
 use Rattle.dataset.specs.Header.{member_at, element_at, item_at}
 use Rattle.dataset.specs.Tree.{Kind, elements, items}
-use Rattle.dataset.specs.Reading.{Row, row, Run, done, level, value_run, elements_at, read, whole, reading_of, depths}
+use Rattle.dataset.specs.declared.Row.{Row}
+use Rattle.dataset.specs.Reading.{row, Run, done, level, value_run, elements_at, read, whole, reading_of, depths}
 use Rattle.dataset.specs.Internal.{items_at}
 use Rattle.basics.specs.Limits.{largest}
 use Rattle.dataset.proofs.Level.{level-on, level-end, value-plain}
@@ -44,37 +48,37 @@ module _ (t : List ℕ) (at : ℕ) (xs : List ℕ) (here : drop at t ≡ xs) whe
 
 -- ---- The checks, on what was written
 
-level-head : (tag vr levels : ℕ) (v : Cursor) → (vr ≡ SQ → levels ≡ 0 → ⊥) → nested_by tag vr levels v ≡ head.Header tag vr v
+level-head : (tag vr levels : ℕ) (v : Cursor) → (vr ≡ SQ → levels ≡ 0 → ⊥) → nested_by tag vr levels v ≡ Ok (head.Header tag vr v)
 unfolding nested_by when
 level-head tag vr levels v n = go (eqb vr SQ) refl (eqb levels 0) refl
   where
     go : (a : Bool) → eqb vr SQ ≡ a → (b : Bool) → eqb levels 0 ≡ b
-        → when a (when b (head.Refused 6) (head.Header tag vr v)) (head.Header tag vr v) ≡ head.Header tag vr v
+        → when a (when b (Err TooDeep) (Ok (head.Header tag vr v))) (Ok (head.Header tag vr v)) ≡ Ok (head.Header tag vr v)
     go true e true f = absurd (n (eqb-true vr SQ e) (eqb-true levels 0 f))
     go true e false f = refl
     go false e b f = refl
 
 module _ (at end tag vr levels : ℕ) (deep : vr ≡ SQ → levels ≡ 0 → ⊥) (size : ℕ) (even : size % 2 ≡ 0) where
   defined-head : (start : ℕ) → start + size ≤ end
-      → defined_by (cursor at end false) tag vr start size levels ≡ head.Header tag vr (cursor start (start + size) false)
+      → defined_by (cursor at end false) tag vr start size levels ≡ Ok (head.Header tag vr (cursor start (start + size) false))
   unfolding defined_by when
   defined-head start fits =
       rw (ne_eqb (size % 2) 1 (omega arith), le-ltb (end - start) size (omega arith))
       (level-head tag vr levels (cursor start (start + size) false) deep)
 
   short-head : (t : List ℕ) (form : ℕ) → form ≡ 1 → at + 8 + size ≤ end
-      → typed_at t (cursor at end false) tag vr form size levels ≡ head.Header tag vr (cursor (at + 8) (at + 8 + size) false)
+      → typed_at t (cursor at end false) tag vr form size levels ≡ Ok (head.Header tag vr (cursor (at + 8) (at + 8 + size) false))
   unfolding typed_at when
   short-head t form f fits = rw f (defined-head (at + 8) fits)
 
   long-head : (t : List ℕ) (form : ℕ) → form ≡ 2 → at + 12 + size ≤ end → size < 4294967295 → le32 t (at + 8) ≡ size
-      → typed_at t (cursor at end false) tag vr form 0 levels ≡ head.Header tag vr (cursor (at + 12) (at + 12 + size) false)
+      → typed_at t (cursor at end false) tag vr form 0 levels ≡ Ok (head.Header tag vr (cursor (at + 12) (at + 12 + size) false))
   unfolding typed_at long_by when
   long-head t form f fits small m =
       rw (f, le-ltb (end - at) 12 (omega arith), m, ne_eqb size undefined (omega arith)) (defined-head (at + 12) fits)
 
 item-head : (at end size : ℕ) → size % 2 ≡ 0 → at + 8 + size ≤ end → size < 4294967295
-    → sized_by (cursor at end false) size ≡ head.Header item_tag 0 (cursor (at + 8) (at + 8 + size) false)
+    → sized_by (cursor at end false) size ≡ Ok (head.Header item_tag 0 (cursor (at + 8) (at + 8 + size) false))
 unfolding sized_by when
 item-head at end size even fits small =
     rw (ne_eqb size undefined (omega arith)) (defined-head at end item_tag 0 0 (λ e _. absurd (omega arith)) size even (at + 8) fits)
@@ -122,7 +126,7 @@ four-back t at p size xs k here e h a b c d =
 module _ (t : List ℕ) (at end least levels tag vr size : ℕ) (more : List ℕ) (here : drop at t ≡ header tag vr size ++ more)
     (up : least ≤ tag) (good : Tag tag) (word : vr < 65536) (deep : vr ≡ SQ → levels ≡ 0 → ⊥) (even : size % 2 ≡ 0) where
   -- Past the tag.
-  on-tag : {h : Head} → at + 8 ≤ end → tag_at t at ≡ tag
+  on-tag : {h : Result Head Fault} → at + 8 ≤ end → tag_at t at ≡ tag
       → typed_at t (cursor at end false) tag (vr_at t (at + 4)) (form_of (vr_at t (at + 4))) (le16 t (at + 6)) levels ≡ h
       → element_at t (cursor at end false) least levels ≡ h
   unfolding header_by tagged_at when
@@ -131,7 +135,7 @@ module _ (t : List ℕ) (at end least levels tag vr size : ℕ) (more : List ℕ
       f
 
   element-short : form_of vr ≡ 1 → size < 65536 → at + 8 + size ≤ end
-      → element_at t (cursor at end false) least levels ≡ head.Header tag vr (cursor (at + 8) (at + 8 + size) false)
+      → element_at t (cursor at end false) least levels ≡ Ok (head.Header tag vr (cursor (at + 8) (at + 8 + size) false))
   element-short f small fits =
       let e = here ∙ header-short tag vr size more f in
       let v : vr_at t (at + 4) ≡ vr = vr-back t at vr _ e word refl refl in
@@ -140,7 +144,7 @@ module _ (t : List ℕ) (at end least levels tag vr size : ℕ) (more : List ℕ
       (rw (v, n) (short-head at end tag vr levels deep size even t (form_of vr) f fits))
 
   element-long : form_of vr ≡ 2 → size < 4294967295 → at + 12 + size ≤ end
-      → element_at t (cursor at end false) least levels ≡ head.Header tag vr (cursor (at + 12) (at + 12 + size) false)
+      → element_at t (cursor at end false) least levels ≡ Ok (head.Header tag vr (cursor (at + 12) (at + 12 + size) false))
   element-long f small fits =
       let e = here ∙ header-long tag vr size more f in
       let v : vr_at t (at + 4) ≡ vr = vr-back t at vr _ e word refl refl in
@@ -150,18 +154,18 @@ module _ (t : List ℕ) (at end least levels tag vr size : ℕ) (more : List ℕ
       (rw (v, n) (long-head at end tag vr levels deep size even t (form_of vr) f fits small m))
 
   element-back : (form_of vr ≡ 0 → ⊥) → (form_of vr ≡ 1 → size < 65536) → size < 4294967295 → at + head_size vr + size ≤ end
-      → element_at t (cursor at end false) least levels ≡ head.Header tag vr (cursor (at + head_size vr) (at + head_size vr + size) false)
+      → element_at t (cursor at end false) least levels ≡ Ok (head.Header tag vr (cursor (at + head_size vr) (at + head_size vr + size) false))
   element-back known few small fits = go (form vr)
     where
       go : Form vr
-          → element_at t (cursor at end false) least levels ≡ head.Header tag vr (cursor (at + head_size vr) (at + head_size vr + size) false)
+          → element_at t (cursor at end false) least levels ≡ Ok (head.Header tag vr (cursor (at + head_size vr) (at + head_size vr + size) false))
       go (no f) = absurd (known f)
       go (short f) = rw (head-short vr f) (element-short f (few f) (omega (arith, head-short vr f)))
       go (long f) = rw (head-long vr f) (element-long f small (omega (arith, head-long vr f)))
 
 item_back : (t : List ℕ) (at end size : ℕ) (more : List ℕ) → drop at t ≡ header item_tag 0 size ++ more → size % 2 ≡ 0 → size < 4294967295
     → at + 8 + size ≤ end
-    → item_at t (cursor at end false) ≡ head.Header item_tag 0 (cursor (at + 8) (at + 8 + size) false)
+    → item_at t (cursor at end false) ≡ Ok (head.Header item_tag 0 (cursor (at + 8) (at + 8 + size) false))
 unfolding header_by member_at when
 item_back t at end size more here even small fits =
     let e = here ∙ header-item size more in
@@ -215,10 +219,10 @@ leaf-node : (t : List ℕ) (tag vr depth at size first : ℕ) (value rest : List
     → node_of t (row tag vr depth at size 0 first) ≡ node tag vr depth 0 value
 leaf-node t tag vr depth at size first value rest n m here e = rw (ne_eqb vr SQ n, ne_eqb vr 0 m, here, take_at value rest size (sym e))
 
-module _ (t : List ℕ) (at_head : ℕ → ℕ → Head) (inside : ℕ → ℕ → Cursor → Run) (depth first end : ℕ) where
+module _ (t : List ℕ) (at_head : ℕ → ℕ → Result Head Fault) (inside : ℕ → ℕ → Cursor → Run) (depth first end : ℕ) where
   -- One turn, and what the turns after it come to.
   step : (turns at least : ℕ) (before : List Row) (tag vr : ℕ) (v : Cursor) (stop : ℕ) (low : List Row) (n : Node) (below rest : List Node)
-      → at_head at least ≡ head.Header tag vr v → inside (first + length before + 1) vr v ≡ done stop stop low
+      → at_head at least ≡ Ok (head.Header tag vr v) → inside (first + length before + 1) vr v ≡ done stop stop low
       → map (node_of t) low ≡ below → node_of t (row tag vr depth v.at (stop - v.at) (length low) first) ≡ n
       → at < stop → stop ≤ end → end < at + turns
       → ((turns : ℕ) (before : List Row) → end < stop + turns
@@ -235,7 +239,7 @@ module _ (t : List ℕ) (at_head : ℕ → ℕ → Head) (inside : ℕ → ℕ �
         nodes = joined t _ n low c.rows below rest e m c.nodes;
       }
 
-abbrev head_of : Kind → ℕ → List ℕ → ℕ → ℕ → ℕ → Head
+abbrev head_of : Kind → ℕ → List ℕ → ℕ → ℕ → ℕ → Result Head Fault
 head_of elements levels t end at least = element_at t (cursor at end false) least levels
 head_of items levels t end at least = item_at t (cursor at end false)
 
@@ -243,7 +247,7 @@ abbrev in_of : Kind → ℕ → List ℕ → ℕ → ℕ → Cursor → Run
 in_of elements levels t n vr v = value_run levels t n vr v
 in_of items levels t n vr v = elements_at levels t n v
 
-ends : (t : List ℕ) (kind : Kind) (levels end least : ℕ) → head_of kind levels t end end least ≡ head.End 0 0 (cursor end end false)
+ends : (t : List ℕ) (kind : Kind) (levels end least : ℕ) → head_of kind levels t end end least ≡ Ok (head.End 0 0 (cursor end end false))
 unfolding header_by when
 ends t elements levels end least = rw (eq-eqb end end refl)
 ends t items levels end least = rw (eq-eqb end end refl)

@@ -10,7 +10,7 @@ use Rattle.dataset.specs.Tree.{rows_of, next_row}
 use Rattle.dataset.proofs.Laws.{row-nested}
 use Rattle.dataset.specs.Answer.{flat}
 use Rattle.node.specs.Nodes.{Node, nodes_of, node_at, next_node, no_node}
-use Rattle.node.proofs.Laws.{table, nodes-count, node-is, next-within}
+use Rattle.node.proofs.Laws.{tabled, nodes-count, node-is, next-within}
 use Rattle.canonical.specs.Internal.{Put, Fitting, WroteNodes}
 use Rattle.canonical.specs.Written.{header, head_size, own_size, written_size, node_bytes, written_of}
 use Rattle.canonical.proofs.Shape.{length-header}
@@ -105,13 +105,13 @@ pub going-first : {ns : List Node} {target : List ℕ} {from to start : ℕ} →
 going-first {ns} {target} {from} {to} {start} f = record { low = omega arith; high = f.low; wrote = wrote_none ns target from start }
 
 next_row_is : (s : List ℕ) (k : ℕ) → k < length (nodes_of s) → next_node (nodes_of s) k ≡ next_row (rows_of s) k
-next_row_is s k h = ap (λ (n : Node). k + 1 + n.descendants) (node-is s (flat (rows_of s)) (table s (flat (rows_of s)) refl) k h)
+next_row_is s k h = ap (λ (n : Node). k + 1 + n.descendants) (node-is s (flat (rows_of s)) (tabled s) k h)
 
 -- What is below a node ends within what is below the node that it is in.
 nested : (s : List ℕ) (i k : ℕ) → i < length (nodes_of s) → i < k → k < next_node (nodes_of s) i
     → next_node (nodes_of s) k ≤ next_node (nodes_of s) i
 nested s i k h l m =
-    let w : next_node (nodes_of s) i ≤ length (nodes_of s) = next-within s (flat (rows_of s)) (table s (flat (rows_of s)) refl) i h in
+    let w : next_node (nodes_of s) i ≤ length (nodes_of s) = next-within s (flat (rows_of s)) (tabled s) i h in
     let a = next_row_is s i h in
     let b = next_row_is s k (omega arith) in
     omega (arith, row-nested s i (omega (arith, nodes-count s)) k l (omega arith))

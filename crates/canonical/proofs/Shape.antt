@@ -119,7 +119,7 @@ length-header tag vr size = go (eqb vr 0) refl (eqb (form_of vr) 2) refl
 
 -- ---- The bytes are those of the definition
 
-size-append : (ns ms : List Node) → written_size (ns ++ ms) ≡ written_size ns + written_size ms
+pub size-append : (ns ms : List Node) → written_size (ns ++ ms) ≡ written_size ns + written_size ms
 unfolding written_size own_size
 size-append [] ms = omega arith
 size-append (n ∷ ns) ms = omega (arith, size-append ns ms)

@@ -1,16 +1,8 @@
--- What the functions inside `write_canonical` require of the row table and promise about the target. None of this is in the papers.
+-- What the functions inside `write_canonical` require of and promise about the target. None of this is in the papers.
 use Rattle.std.specs.Prelude.{◌≡◌, ℕ, ◌+◌, ◌≤◌, ◌<◌, List, length, drop}
 use Rattle.std.proofs.lemmas.List.Edits.{sets}
-use Rattle.basics.specs.Limits.{largest}
-use Rattle.node.specs.Nodes.{Node, nodes_of, next_node}
-use Rattle.node.specs.Internal.{Table}
+use Rattle.node.specs.Nodes.{Node, next_node}
 use Rattle.canonical.specs.Written.{written_size, written_of}
-
--- The row table of a data set that was read. Its nodes take no more bytes than the data set has, nor than reading allows.
-pub record Sized (s rows : List ℕ) : Type 0 where
-  pub table : Table s rows
-  pub fits : written_size (nodes_of s) ≤ length s
-  pub small : written_size (nodes_of s) ≤ largest
 
 -- The bytes are at `at`, and nothing else has changed.
 pub record Put (before after : List ℕ) (at : ℕ) (bytes : List ℕ) : Type 0 where

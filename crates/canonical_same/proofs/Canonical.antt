@@ -1,5 +1,6 @@
 -- The canonical form has the nodes of its data set, and rules and drawing steps see nodes alone. A row's parent is the innermost row that
 -- counts it among its rows below, so it follows from the rows below.
+use Rattle.std.specs.Prelude.{Result, Ok, Err}
 use mathlib.Core.Path.{◌≡◌, refl, sym, ap, ◌∙◌}
 use mathlib.Core.Bool.{Bool, true, false, cond, ◌||◌}
 use mathlib.Core.Logic.{inl, inr}
@@ -11,10 +12,11 @@ use lib.Seq.{ext_get_or}
 use lib.Dec.{eqb, leb, ltb}
 use borrow.Author.Tests.{le-leb, lt-leb, leb-false, ltb-true, ltb-false, eqb-false, ne_eqb}
 use Rattle.basics.specs.Vr.{SQ}
-use Rattle.dataset.specs.Reading.{Row, reading_of}
+use Rattle.dataset.specs.declared.Row.{Row}
+use Rattle.dataset.specs.Reading.{reading_of}
 use Rattle.dataset.specs.Answer as reading
-use Rattle.dataset.specs.declared.ReadAnswer.{ReadAnswer}
-use Rattle.dataset.specs.declared.ReadAnswer.TheVariants as read_answer
+use Rattle.dataset.specs.declared.ReadError.{ReadError}
+use Rattle.dataset.specs.declared.ReadError.TheVariants as unread
 use Rattle.dataset.specs.Tree.{rows_of, row_at, next_row, elements}
 use Rattle.dataset.proofs.Laws.{Small, answer-small}
 use Rattle.dataset.proofs.Tree.{rows-members}
@@ -27,8 +29,8 @@ use Rattle.display.specs.Show.{show_of, image_of}
 use Rattle.sheet.specs.Answer.{sheet_of}
 use Rattle.compare.specs.Answer.{compare_of}
 use Rattle.canonical.specs.Written.{written_of}
-use Rattle.canonical.specs.Answer.{answer_for, target_by, canonical_of, target_of, fields_of}
-use Rattle.canonical.specs.declared.CanonicalAnswer.TheVariants as canonical
+use Rattle.canonical.specs.Answer.{written, answer_for, target_by, canonical_of, target_of, fields_of}
+use Rattle.canonical.specs.declared.CanonicalError.TheVariants.{NoTargetRoom}
 use Rattle.canonical.proofs.Theorems.{written-returns}
 use Rattle.canonical_same.specs.Canonical.{canonical_form, ReadsWell, row_in, value_bytes, AgreeAt, Agree, Answered}
 use Rattle.canonical_same.specs.Answers.{AnswersAlike}
@@ -169,24 +171,22 @@ module _ (s rows target : List ℕ) where
   abbrev w : List ℕ
   w = canonical_form s
 
-  refused_as : (a : ReadAnswer) → ((reading.fields_of a).code ≡ 0 → ⊥)
+  refused_as : (a : Result ℕ ReadError) → ((reading.fields_of a).code ≡ 0 → ⊥)
       → ((fields_of (answer_for w target a)).answer ≡ reading.fields_of a) × (target_by w target (answer_for w target a) ≡ target)
-  refused_as (read_answer.Done n) h = absurd (h refl)
-  refused_as (read_answer.Refused code offset) h = (refl, refl)
-  refused_as read_answer.TooLarge h = (refl, refl)
-  refused_as read_answer.NoRoom h = (refl, refl)
+  refused_as (Ok n) h = absurd (h refl)
+  refused_as (Err e) h = (refl, refl)
 
-  only-short : (a : ReadAnswer) → Small a → (fields_of (answer_for w target a)).answer.code ≡ 21 → length target < length w
-  only-short (read_answer.Done n) m e = go (leb (length w) (length target)) refl e
+  only-short : (a : Result ℕ ReadError) → Small a → (fields_of (answer_for w target a)).answer.code ≡ 21 → length target < length w
+  only-short (Ok n) m e = go (leb (length w) (length target)) refl e
     where
       go : (t : Bool) → leb (length w) (length target) ≡ t
-          → (fields_of (cond t (canonical.Done n (length w)) (canonical.NoTargetRoom (length w)))).answer.code ≡ 21
+          → (fields_of (cond t (Ok (written n (length w))) (Err (NoTargetRoom (length w))))).answer.code ≡ 21
           → length target < length w
       go true f e = absurd (omega arith)
       go false f e = leb-false (length w) (length target) f
-  only-short (read_answer.Refused code offset) m e = absurd (omega (arith, m.1.0))
-  only-short read_answer.TooLarge m e = absurd (omega arith)
-  only-short read_answer.NoRoom m e = absurd (omega arith)
+  only-short (Err (unread.Refused r)) m e = absurd (omega (arith, m.1.0))
+  only-short (Err unread.TooLarge) m e = absurd (omega arith)
+  only-short (Err unread.NoRoom) m e = absurd (omega arith)
 
   answered : Answered s w rows target
   unfolding canonical_of target_of

@@ -15,17 +15,17 @@
 -- beyond it.
 --
 -- Proved in proofs/Canonical. The contracts of `write_canonical` and `xa_canonical` say that the code computes these answers.
-use Rattle.std.specs.Prelude.{◌≡◌, ℕ, ◌≤◌, ◌<◌, List, ◌++◌, length, take, drop}
+use Rattle.std.specs.Prelude.{◌≡◌, ℕ, ◌≤◌, ◌<◌, List, ◌++◌, length, take, drop, Ok, Err}
 use Rattle.basics.specs.Bytes.{IsBytes}
 use Rattle.basics.specs.Vr.{SQ}
-use Rattle.dataset.specs.Reading.{Row, read, reading_of}
+use Rattle.dataset.specs.declared.Row.{Row}
+use Rattle.dataset.specs.Reading.{read, reading_of}
 use Rattle.dataset.specs.Answer as reading
-use Rattle.dataset.specs.declared.ReadAnswer.TheVariants as read_answer
 use Rattle.dataset.specs.Tree.{rows_of, row_at}
 use Rattle.node.specs.Nodes.{nodes_of}
 use Rattle.canonical.specs.Written.{written_of}
-use Rattle.canonical.specs.Answer.{canonical_of, target_of, fields_of}
-use Rattle.canonical.specs.declared.CanonicalAnswer.TheVariants as canonical
+use Rattle.canonical.specs.Answer.{written, canonical_of, target_of, fields_of}
+use Rattle.canonical.specs.declared.CanonicalError.TheVariants.{NoTargetRoom}
 use Rattle.canonical_same.specs.Answers.{AnswersAlike}
 
 -- The canonical form of a data set.
@@ -72,10 +72,10 @@ pub record Answered (s w rows target : List ℕ) : Type 0 where
   pub refused : ((reading.fields_of (reading.answer_of (reading_of s) rows)).code ≡ 0 → ⊥)
       → ((fields_of (canonical_of s rows target)).answer ≡ reading.fields_of (reading.answer_of (reading_of s) rows))
       × (target_of s rows target ≡ target)
-  pub short : (n : ℕ) → reading.answer_of (reading_of s) rows ≡ read_answer.Done n → length target < length w
-      → (canonical_of s rows target ≡ canonical.NoTargetRoom (length w)) × (target_of s rows target ≡ target)
-  pub done : (n : ℕ) → reading.answer_of (reading_of s) rows ≡ read_answer.Done n → length w ≤ length target
-      → (canonical_of s rows target ≡ canonical.Done n (length w)) × (target_of s rows target ≡ w ++ drop (length w) target)
+  pub short : (n : ℕ) → reading.answer_of (reading_of s) rows ≡ Ok n → length target < length w
+      → (canonical_of s rows target ≡ Err (NoTargetRoom (length w))) × (target_of s rows target ≡ target)
+  pub done : (n : ℕ) → reading.answer_of (reading_of s) rows ≡ Ok n → length w ≤ length target
+      → (canonical_of s rows target ≡ Ok (written n (length w))) × (target_of s rows target ≡ w ++ drop (length w) target)
   pub only-short : (fields_of (canonical_of s rows target)).answer.code ≡ 21 → length target < length w
 
 pub record Canonical : Type 0 where

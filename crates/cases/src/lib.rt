@@ -2,38 +2,28 @@
 // its bytes.
 #![tactic(auto)]
 
-ghost use Rattle.std.specs.Prelude.{◌≤◌, ◌<◌, OnOk, codes, length};
+ghost use Rattle.std.specs.Prelude.{◌≤◌, ◌<◌, IfSome, OnOk, codes, length};
 ghost use Rattle.std.specs.Io.KnownBytes.{Appends, Keeps};
 
 use basics::u16_at;
 use std::io;
 use std::io::Write;
+use std::ops::Range;
 
-// Where the bytes of a case start and end.
-#[derive(Clone, Copy)]
-pub struct Case {
-    pub start: usize,
-    pub end: usize,
-}
-
-// The case at a place; where there is no whole one, it ends at the place itself.
-pub fn case_at(cases: &[u8], at: usize) -> Case
+// Where the bytes of the case at a place are, if a whole one is there.
+pub fn case_at(cases: &[u8], at: usize) -> Option<Range<usize>>
     requires { at ≤ length cases.now }
-    ensures { (at ≤ result.start) × ((result.start ≤ result.end) × (result.end ≤ length cases.now)) }
+    ensures { IfSome result (λ case. (at < case.start) × ((case.start ≤ case.end) × (case.end ≤ length cases.now))) }
 {
-    let none = Case { start: at, end: at };
     if cases.len() - at < 2 {
-        return none;
+        return None;
     }
     let start = at + 2;
     let size = u16_at(cases, at);
     if cases.len() - start < size {
-        return none;
+        return None;
     }
-    Case {
-        start,
-        end: start + size,
-    }
+    Some(start..start + size)
 }
 
 // Says so where bytes are left after the last whole case.
@@ -42,7 +32,7 @@ pub fn print_rest<W: Write>(to: &mut W, cases: &[u8], at: usize) -> io::Result<(
     ensures no_rest { length cases.now ≤ at → OnOk result (Keeps (W.contents to.old) (W.contents to.new)) }
 {
     if at < cases.len() {
-        to.write_all(b"the last case is cut short\n")?;
+        writeln!(to, "the last case is cut short")?;
     }
     Ok(())
 }

@@ -1,9 +1,9 @@
 -- What is promised of comparing: the first place that is off and the count follow by induction over the places, and the codes from
 -- the tests of the answer.
+use Rattle.std.specs.Prelude.{Option, Some, Result, Ok, Err}
 use mathlib.Core.Path.{◌≡◌, refl, sym, ap, ◌∙◌, subst}
 use mathlib.Core.Bool.{Bool, true, false, cond, ◌&&◌}
 use mathlib.Core.List.{List, ◌++◌}
-use mathlib.Core.Option.{Option, some}
 use Prim.Native.Nat.{ℕ, zero, suc, ◌+◌, ◌≤◌, ◌<◌}
 use native.Mathlib.Omega.{arith}
 use lib.ListN.{length, get_or, take, drop}
@@ -22,8 +22,10 @@ use Rattle.display.specs.Show.{is_frame_of, image_size, picture_in, picture_of, 
 use Rattle.display.specs.Drawing.{IsFrame, Whole}
 use Rattle.display.proofs.Codes.{was-frame, judged-accepted, was-judged}
 use Rattle.display.proofs.Drawing.{drawing}
-use Rattle.compare.specs.declared.CompareAnswer.{CompareAnswer}
-use Rattle.compare.specs.declared.CompareAnswer.TheVariants as answer
+use Rattle.compare.specs.declared.Comparison.{Comparison}
+use Rattle.compare.specs.declared.Comparison.TheVariants as comparison
+use Rattle.compare.specs.declared.CompareError.{CompareError}
+use Rattle.compare.specs.declared.CompareError.TheVariants as error
 use Rattle.differences.specs.Differences.{within, is_off, how_many, first_off}
 use Rattle.compare.specs.Answer.{compared_by, accepted_answer, answer_for, compare_of, fields_of}
 use Rattle.compare.specs.Comparing.{Comparable, Near, Names, Own, Comparing}
@@ -90,29 +92,29 @@ module _ (s : List ℕ) (f : ℕ) (cells : List ℕ) (t : ℕ) where
 
   -- ---- Yes or no
 
-  yes-by : (n size : ℕ) → ((i : ℕ) → i < size → Near s f cells t i) → compared_by n off size ≡ answer.Same n
+  yes-by : (n size : ℕ) → ((i : ℕ) → i < size → Near s f cells t i) → compared_by n off size ≡ comparison.Same n
   unfolding compared_by
   yes-by n size h = rw (all-on off size (λ i l. near_on i (h i l)))
 
-  was-yes : (n size : ℕ) → (fields_of (compared_by n off size)).same ≡ 1 → (i : ℕ) → i < size → Near s f cells t i
+  was-yes : (n size : ℕ) → (fields_of (Ok (compared_by n off size))).same ≡ 1 → (i : ℕ) → i < size → Near s f cells t i
   unfolding compared_by
   was-yes n size e = go (eqb (how_many off size) 0) refl e
     where
       go : (b : Bool) → eqb (how_many off size) 0 ≡ b
-          → (fields_of (cond b (answer.Same n) (answer.Differs n (first_off off size) (how_many off size)))).same ≡ 1 → (i : ℕ) → i < size
+          → (fields_of (Ok (cond b (comparison.Same n) (comparison.Differs n (first_off off size) (how_many off size))))).same ≡ 1 → (i : ℕ) → i < size
           → Near s f cells t i
       go true z e i h = on-near i (none-off off size (eqb-true (how_many off size) 0 z) i h)
       go false z e i h = absurd (omega (arith, e))
 
-  was-no : (n size : ℕ) → length cells ≡ size → (fields_of (compared_by n off size)).same ≡ 0
-      → Names s f cells t (fields_of (compared_by n off size)).first (fields_of (compared_by n off size)).count
+  was-no : (n size : ℕ) → length cells ≡ size → (fields_of (Ok (compared_by n off size))).same ≡ 0
+      → Names s f cells t (fields_of (Ok (compared_by n off size))).first (fields_of (Ok (compared_by n off size))).count
   unfolding compared_by
   was-no n size l e = go (eqb (how_many off size) 0) refl e
     where
       go : (b : Bool) → eqb (how_many off size) 0 ≡ b
-          → (fields_of (cond b (answer.Same n) (answer.Differs n (first_off off size) (how_many off size)))).same ≡ 0
-          → Names s f cells t (fields_of (cond b (answer.Same n) (answer.Differs n (first_off off size) (how_many off size)))).first
-          (fields_of (cond b (answer.Same n) (answer.Differs n (first_off off size) (how_many off size)))).count
+          → (fields_of (Ok (cond b (comparison.Same n) (comparison.Differs n (first_off off size) (how_many off size))))).same ≡ 0
+          → Names s f cells t (fields_of (Ok (cond b (comparison.Same n) (comparison.Differs n (first_off off size) (how_many off size))))).first
+          (fields_of (Ok (cond b (comparison.Same n) (comparison.Differs n (first_off off size) (how_many off size))))).count
       go true z e = absurd (omega (arith, e))
       go false z e =
           let k : 1 ≤ how_many off size = omega (arith, eqb-false (how_many off size) 0 z) in
@@ -126,26 +128,26 @@ module _ (s : List ℕ) (f : ℕ) (cells : List ℕ) (t : ℕ) where
             some = k;
           }
 
-  code-done : (n size : ℕ) → (fields_of (compared_by n off size)).answer.code ≡ 0
+  code-done : (n size : ℕ) → (fields_of (Ok (compared_by n off size))).answer.code ≡ 0
   unfolding compared_by
   code-done n size = go (eqb (how_many off size) 0)
     where
-      go : (b : Bool) → (fields_of (cond b (answer.Same n) (answer.Differs n (first_off off size) (how_many off size)))).answer.code ≡ 0
+      go : (b : Bool) → (fields_of (Ok (cond b (comparison.Same n) (comparison.Differs n (first_off off size) (how_many off size))))).answer.code ≡ 0
       go true = refl
       go false = refl
 
-  rows-done : (n size : ℕ) → (fields_of (compared_by n off size)).answer.rows ≡ n
+  rows-done : (n size : ℕ) → (fields_of (Ok (compared_by n off size))).answer.rows ≡ n
   unfolding compared_by
   rows-done n size = go (eqb (how_many off size) 0)
     where
-      go : (b : Bool) → (fields_of (cond b (answer.Same n) (answer.Differs n (first_off off size) (how_many off size)))).answer.rows ≡ n
+      go : (b : Bool) → (fields_of (Ok (cond b (comparison.Same n) (comparison.Differs n (first_off off size) (how_many off size))))).answer.rows ≡ n
       go true = refl
       go false = refl
 
   -- ---- From the code back to what was asked
 
   accepted-answer : (n : ℕ) → IsFrame s f → length cells ≡ image_size (nodes_of s) → t ≤ 255
-      → accepted_answer (nodes_of s) f cells t n ≡ compared_by n off (image_size (nodes_of s))
+      → accepted_answer (nodes_of s) f cells t n ≡ Ok (compared_by n off (image_size (nodes_of s)))
   unfolding accepted_answer
   accepted-answer n i size most =
       rw (
@@ -165,8 +167,8 @@ module _ (s : List ℕ) (f : ℕ) (cells : List ℕ) (t : ℕ) where
   was-asked n e = go (is_frame_of (nodes_of s) f) (eqb (length cells) (image_size (nodes_of s))) (leb t 255) refl refl refl e
     where
       go : (p q r : Bool) → is_frame_of (nodes_of s) f ≡ p → eqb (length cells) (image_size (nodes_of s)) ≡ q → leb t 255 ≡ r
-          → (fields_of (cond p (cond q (cond r (compared_by n off (image_size (nodes_of s))) answer.WrongTolerance) answer.WrongSize)
-          answer.NoFrame)).answer.code ≡ 0 → Asked
+          → (fields_of (cond p (cond q (cond r (Ok (compared_by n off (image_size (nodes_of s)))) (Err error.WrongTolerance)) (Err error.WrongSize))
+          (Err error.NoFrame))).answer.code ≡ 0 → Asked
       go true true true a b c e =
           record { frame = was-frame s f a; size = eqb-true (length cells) (image_size (nodes_of s)) b; tolerance = leb-true t 255 c }
       go true true false a b c e = absurd (omega (arith, e))
@@ -174,7 +176,7 @@ module _ (s : List ℕ) (f : ℕ) (cells : List ℕ) (t : ℕ) where
       go false q r a b c e = absurd (omega (arith, e))
 
   module _ (buffer : List ℕ) where
-    answered : Comparable s f cells t buffer → compare_of s f cells t buffer ≡ compared_by (length (rows_of s)) off (image_size (nodes_of s))
+    answered : Comparable s f cells t buffer → compare_of s f cells t buffer ≡ Ok (compared_by (length (rows_of s)) off (image_size (nodes_of s)))
     unfolding compare_of
     answered c = rw (judged-accepted s buffer c.accepted c.room)
         (accepted-answer (length (rows_of s)) c.frame c.size c.tolerance)
@@ -183,48 +185,45 @@ module _ (s : List ℕ) (f : ℕ) (cells : List ℕ) (t : ℕ) where
     unfolding compare_of
     was-done e =
         let j = was-judged s buffer (λ x. (fields_of (answer_for (nodes_of s) f cells t x)).answer.code)
-        (record { broken = λ n rule frame. refl; refused = λ code offset. refl; too_large = refl; no_room = refl }) e in
+        (record { refused = λ e. refl }) e in
         let a = was-asked (length j.accepted.rows) j.code in
         record { accepted = j.accepted; frame = a.frame; size = a.size; tolerance = a.tolerance; room = j.room }
 
     done : Comparable s f cells t buffer → (fields_of (compare_of s f cells t buffer)).answer.code ≡ 0
-    done c = ap (λ (x : CompareAnswer). (fields_of x).answer.code) (answered c) ∙ code-done (length (rows_of s)) (image_size (nodes_of s))
+    done c = ap (λ (x : Result Comparison CompareError). (fields_of x).answer.code) (answered c) ∙ code-done (length (rows_of s)) (image_size (nodes_of s))
 
     yes : Comparable s f cells t buffer → ((i : ℕ) → i < length cells → Near s f cells t i)
         → (fields_of (compare_of s f cells t buffer)).same ≡ 1
-    yes c h = ap (λ (x : CompareAnswer). (fields_of x).same)
-        (answered c ∙ yes-by (length (rows_of s)) (image_size (nodes_of s)) (λ i l. h i (omega (arith, l, c.size))))
+    yes c h = ap (λ (x : Result Comparison CompareError). (fields_of x).same)
+        (answered c ∙ ap (λ (x : Comparison). Ok x) (yes-by (length (rows_of s)) (image_size (nodes_of s)) (λ i l. h i (omega (arith, l, c.size)))))
 
     only_then : (fields_of (compare_of s f cells t buffer)).same ≡ 1
         → Comparable s f cells t buffer × ((i : ℕ) → i < length cells → Near s f cells t i)
     only_then e =
         let c = was-done (same_code (compare_of s f cells t buffer) e) in (
           c,
-          λ i l. was-yes (length (rows_of s)) (image_size (nodes_of s)) (sym (ap (λ (x : CompareAnswer). (fields_of x).same) (answered c)) ∙ e)
+          λ i l. was-yes (length (rows_of s)) (image_size (nodes_of s)) (sym (ap (λ (x : Result Comparison CompareError). (fields_of x).same) (answered c)) ∙ e)
               i (omega (arith, l, c.size)),
         )
       where
-        same_code : (r : CompareAnswer) → (fields_of r).same ≡ 1 → (fields_of r).answer.code ≡ 0
-        same_code (answer.Same n) e = refl
-        same_code (answer.Differs n first count) e = refl
-        same_code (answer.Broken n rule frame) e = absurd (omega (arith, e))
-        same_code (answer.Refused code offset) e = absurd (omega (arith, e))
-        same_code answer.TooLarge e = absurd (omega (arith, e))
-        same_code answer.NoRoom e = absurd (omega (arith, e))
-        same_code answer.NoFrame e = absurd (omega (arith, e))
-        same_code answer.WrongSize e = absurd (omega (arith, e))
-        same_code answer.WrongTolerance e = absurd (omega (arith, e))
+        same_code : (r : Result Comparison CompareError) → (fields_of r).same ≡ 1 → (fields_of r).answer.code ≡ 0
+        same_code (Ok (comparison.Same n)) e = refl
+        same_code (Ok (comparison.Differs n first count)) e = refl
+        same_code (Err (error.Refused r)) e = absurd (omega (arith, e))
+        same_code (Err error.NoFrame) e = absurd (omega (arith, e))
+        same_code (Err error.WrongSize) e = absurd (omega (arith, e))
+        same_code (Err error.WrongTolerance) e = absurd (omega (arith, e))
 
     no : (fields_of (compare_of s f cells t buffer)).answer.code ≡ 0 → (fields_of (compare_of s f cells t buffer)).same ≡ 0
         → Names s f cells t (fields_of (compare_of s f cells t buffer)).first (fields_of (compare_of s f cells t buffer)).count
     no e z =
         let c = was-done e in
-        subst (λ (r : CompareAnswer). Names s f cells t (fields_of r).first (fields_of r).count) (sym (answered c))
-        (was-no (length (rows_of s)) (image_size (nodes_of s)) c.size (sym (ap (λ (x : CompareAnswer). (fields_of x).same) (answered c)) ∙ z))
+        subst (λ (r : Result Comparison CompareError). Names s f cells t (fields_of r).first (fields_of r).count) (sym (answered c))
+        (was-no (length (rows_of s)) (image_size (nodes_of s)) c.size (sym (ap (λ (x : Result Comparison CompareError). (fields_of x).same) (answered c)) ∙ z))
 
     row_count : (fields_of (compare_of s f cells t buffer)).answer.code ≡ 0
         → (fields_of (compare_of s f cells t buffer)).answer.rows ≡ length (rows_of s)
-    row_count e = ap (λ (x : CompareAnswer). (fields_of x).answer.rows) (answered (was-done e))
+    row_count e = ap (λ (x : Result Comparison CompareError). (fields_of x).answer.rows) (answered (was-done e))
         ∙ rows-done (length (rows_of s)) (image_size (nodes_of s))
 
 -- ---- Larger tolerances
@@ -251,7 +250,7 @@ own-cells s b f buffer image e =
     let w = d.nothing-else buffer image e in
     let p : Whole (nodes_of s) f = d.drawable w.0 w.1.0 in
     let h = d.as-stepped buffer image e in
-    let same : some h.p ≡ some p.p = sym h.is ∙ p.is in
+    let same : Some h.p ≡ Some p.p = sym h.is ∙ p.is in
     let v : h.p ≡ p.p = cc in
     let cells : image_of s f buffer image ≡ p.p.samples ++ drop (image_size (nodes_of s)) image = h.cells
     ∙ ap (λ (x : Picture). x.samples ++ drop (image_size (nodes_of s)) image) v in

@@ -8,7 +8,6 @@ ghost use Rattle.dataset.specs.Answer.{buffer_of};
 ghost use Rattle.value.specs.Number.{us_values};
 ghost use Rattle.shift.specs.Internal.{ShortMoves};
 ghost use Rattle.node.specs.Nodes.{nodes_of};
-ghost use Rattle.node.specs.Internal.{Table};
 ghost use Rattle.element.specs.Elements.{value_at};
 ghost use Rattle.conformance.specs.declared.Finding.TheVariants as finding;
 ghost use Rattle.conformance.specs.Judging.{finding_of};
@@ -19,32 +18,42 @@ ghost use Rattle.display.specs.Internal.{shade_by, MasksReady, IsObject, IsPixel
 ghost use Rattle.display.specs.Show.{image_size, picture_of};
 ghost use Rattle.differences.specs.Differences.{is_off};
 ghost use Rattle.differences.specs.Internal.{along, none_off, met, Against};
+ghost use Rattle.compare.specs.declared.CompareError.TheVariants.{Refused};
 ghost use Rattle.compare.specs.Answer.{accepted_answer, compare_of, fields_of};
 
-use conformance::JudgeAnswer;
+use conformance::NotAccepted;
 use differences::Differing;
 use display::{Masking, Plan, Scene};
 use lines::{Shades, Way};
+use node::DataSet;
 use pixel::Geometry;
 use shift::Moves;
-use value::Num;
 
 // The largest tolerance.
 const MOST: usize = 255;
 
-// The answer of `compare`: yes, with the number of rows; no, with the number of rows, the first cell that is off and how many are off;
-// code 9, with the number of rows, rule and frame; code and offset of a refusal; codes 7, 8, 10, 22 and 23.
+// What comparing came to, with the number of rows: no cell is off; or the first cell that is off and how many are off.
 #[derive(Clone, Copy)]
-pub enum CompareAnswer {
+pub enum Comparison {
     Same(usize),
     Differs(usize, usize, usize),
-    Broken(usize, usize, usize),
-    Refused(usize, usize),
-    TooLarge,
-    NoRoom,
+}
+
+// Why nothing was compared: codes 1 to 9 of judging; codes 10, 22 and 23.
+#[derive(Clone, Copy)]
+pub enum CompareError {
+    Refused(NotAccepted),
     NoFrame,
     WrongSize,
     WrongTolerance,
+}
+
+impl From<NotAccepted> for CompareError {
+    ghost from_gives = { λ refusal error. error ≡ Refused refusal };
+
+    fn from(refusal: NotAccepted) -> CompareError {
+        CompareError::Refused(refusal)
+    }
 }
 
 // ---- A frame, line by line
@@ -117,10 +126,17 @@ fn compare_masked(
     )
 }
 
+// The pixel bytes. `value_part` and not `DataSet::value`, since the theorem FrameBytes speaks of the part that it hands out.
+fn pixels_of<'a>(set: &DataSet<'a>, p: usize) -> &'a [u8]
+    requires { IsPixels (nodes_of set.now) p }
+    ensures { result.now ≡ value_at (nodes_of set.now) p }
+{
+    frame::value_part(set.bytes(), set.rows(), p)
+}
+
 // A frame, whatever masks it.
 fn compare_frame(
-    bytes: &[u8],
-    rows: &[u32],
+    set: &DataSet,
     c: Scene,
     frame: usize,
     masking: Masking,
@@ -132,17 +148,16 @@ fn compare_frame(
     cells: &[u8],
     tolerance: usize,
 ) -> Differing
-    requires { Table bytes.now rows.now
-        × (IsPixels (nodes_of bytes.now) c.p
-        × (LinesReady (value_at (nodes_of bytes.now) c.p) c.g frame shades table.now upper.old lower.old line.old
-        × (MasksReady (nodes_of bytes.now) (value_at (nodes_of bytes.now) c.p) c.g masking
-        × Against cells.now tolerance (samples_of c.g)))) }
+    requires { IsPixels (nodes_of set.now) c.p
+        × (LinesReady (value_at (nodes_of set.now) c.p) c.g frame shades table.now upper.old lower.old line.old
+        × (MasksReady (nodes_of set.now) (value_at (nodes_of set.now) c.p) c.g masking
+        × Against cells.now tolerance (samples_of c.g))) }
     ensures { result
-        ≡ met tolerance (shade_by (nodes_of bytes.now) (shades_of shades c.g.stored) c.g
-        (value_at (nodes_of bytes.now) c.p) frame masking) cells.now (samples_of c.g) }
+        ≡ met tolerance (shade_by (nodes_of set.now) (shades_of shades c.g.stored) c.g
+        (value_at (nodes_of set.now) c.p) frame masking) cells.now (samples_of c.g) }
 {
     let g = c.g;
-    let pixels = frame::value_part(bytes, rows, c.p);
+    let pixels = pixels_of(set, c.p);
     match masking {
         Masking::Native => compare_lines(
             Way::Native,
@@ -159,25 +174,23 @@ fn compare_frame(
             tolerance,
         ),
         Masking::Average(k, m) => {
-            let masks = node::value(bytes, rows, k);
+            let masks = set.value(k);
             compare_masked(
                 pixels, g, frame, masks, m, shades, table, upper, lower, line, cells, tolerance,
             )
         }
         Masking::One(t, m) => {
-            let one = [(t % 256) as u8, (t / 256 % 256) as u8];
+            let one = (t as u16).to_le_bytes();
             compare_masked(
                 pixels, g, frame, &one, m, shades, table, upper, lower, line, cells, tolerance,
             )
         }
-        Masking::Lacks => differences::none_off(),
     }
 }
 
 // The same, with all buffers made here and the table of levels filled.
 fn compare_planned(
-    bytes: &[u8],
-    rows: &[u32],
+    set: &DataSet,
     c: Scene,
     frame: usize,
     own: Plan,
@@ -185,10 +198,10 @@ fn compare_planned(
     cells: &[u8],
     tolerance: usize,
 ) -> Differing
-    requires { PlanReady bytes.now rows.now n c frame own × Against cells.now tolerance (image_size (nodes_of bytes.now)) }
+    requires { PlanReady set.now n c frame own × Against cells.now tolerance (image_size (nodes_of set.now)) }
     ensures { result
-        ≡ along (is_off tolerance (picture_of (nodes_of bytes.now) frame).samples cells.now) 0
-        (image_size (nodes_of bytes.now)) none_off }
+        ≡ along (is_off tolerance (picture_of (nodes_of set.now) frame).samples cells.now) 0
+        (image_size (nodes_of set.now)) none_off }
 {
     let mut table: [u8; window::PLACES] = [0; window::PLACES];
     let mut upper: [u32; pixel::LONGEST] = [0; pixel::LONGEST];
@@ -205,96 +218,73 @@ fn compare_planned(
         filled: true,
     };
     compare_frame(
-        bytes, rows, c, frame, masking, shades, &table, &mut upper, &mut lower, &mut line, cells,
-        tolerance,
+        set, c, frame, masking, shades, &table, &mut upper, &mut lower, &mut line, cells, tolerance,
     )
 }
 
 // A frame of an accepted object of n frames, by its plan.
 fn compare_picture(
-    bytes: &[u8],
-    rows: &[u32],
+    set: &DataSet,
     frame: usize,
     n: usize,
     cells: &[u8],
     tolerance: usize,
 ) -> Differing
-    requires { Table bytes.now rows.now
-        × (IsObject bytes.now n × ((1 ≤ frame) × ((frame ≤ n) × Against cells.now tolerance (image_size (nodes_of bytes.now))))) }
+    requires { IsObject set.now n × ((1 ≤ frame) × ((frame ≤ n) × Against cells.now tolerance (image_size (nodes_of set.now)))) }
     ensures { result
-        ≡ along (is_off tolerance (picture_of (nodes_of bytes.now) frame).samples cells.now) 0
-        (image_size (nodes_of bytes.now)) none_off }
+        ≡ along (is_off tolerance (picture_of (nodes_of set.now) frame).samples cells.now) 0
+        (image_size (nodes_of set.now)) none_off }
 {
-    let scene = display::scene_of(bytes, rows, n);
-    let own = display::plan_for(bytes, rows, scene, frame, n);
-    compare_planned(bytes, rows, scene, frame, own, n, cells, tolerance)
+    let scene = display::scene_of(set, n);
+    let own = display::plan_for(set, scene, frame, n);
+    compare_planned(set, scene, frame, own, n, cells, tolerance)
 }
 
 // ---- The call
 
 // Compares a frame of an accepted object whose number of rows is given: codes 10, 22 and 23, or yes or no.
+#[tactic(auto, using(differences::proofs::Places::seen_all), unfolding(crate::specs::Answer::accepted_answer, crate::specs::Answer::compared_by))]
 fn compare_table(
-    bytes: &[u8],
-    rows: &[u32],
+    set: &DataSet,
     frame: usize,
     cells: &[u8],
     tolerance: usize,
     count: usize,
-) -> CompareAnswer
-    requires { Table bytes.now rows.now
-        × (((i : ℕ) → get_or bytes.now i 0 < 256) × (finding_of (nodes_of bytes.now) ≡ finding.Accepted)) }
-    ensures { result ≡ accepted_answer (nodes_of bytes.now) frame cells.now tolerance count }
+) -> Result<Comparison, CompareError>
+    requires { ((i : ℕ) → get_or set.now i 0 < 256) × (finding_of (nodes_of set.now) ≡ finding.Accepted) }
+    ensures { result ≡ accepted_answer (nodes_of set.now) frame cells.now tolerance count }
 {
-    let Num::Is(n) = element::frame_count(bytes, rows) else {
-        return CompareAnswer::NoFrame;
-    };
-    if frame < 1 {
-        return CompareAnswer::NoFrame;
+    let n = element::frame_count(set).ok_or(CompareError::NoFrame)?;
+    if frame < 1 || n < frame {
+        return Err(CompareError::NoFrame);
     }
-    if n < frame {
-        return CompareAnswer::NoFrame;
-    }
-    if cells.len() != display::image_size(bytes, rows) {
-        return CompareAnswer::WrongSize;
+    if cells.len() != display::image_size(set) {
+        return Err(CompareError::WrongSize);
     }
     if MOST < tolerance {
-        return CompareAnswer::WrongTolerance;
+        return Err(CompareError::WrongTolerance);
     }
-    let found = compare_picture(bytes, rows, frame, n, cells, tolerance);
-    let off = found.count;
-    if off == 0 {
-        CompareAnswer::Same(count)
+    let found = compare_picture(set, frame, n, cells, tolerance);
+    Ok(if found.count == 0 {
+        Comparison::Same(count)
     } else {
-        CompareAnswer::Differs(count, found.first, off)
-    }
+        Comparison::Differs(count, found.first, found.count)
+    })
 }
 
 // Judges the data set afresh and compares cells with a frame of it.
+#[tactic(auto, using(display::proofs::Judged::judging), unfolding(crate::specs::Answer::compare_of))]
 pub fn compare(
     bytes: &[u8],
     frame: u64,
     cells: &[u8],
     tolerance: u64,
     rows: &mut [u32],
-) -> CompareAnswer
+) -> Result<Comparison, CompareError>
     ensures answers { Answers fields_of result (compare_of bytes.now frame cells.now tolerance rows.old) }
     ensures rows_after { rows.new ≡ buffer_of (reading_of bytes.now) rows.old }
 {
-    match conformance::judge(bytes, rows) {
-        JudgeAnswer::TooLarge => CompareAnswer::TooLarge,
-        JudgeAnswer::Refused(code, offset) => CompareAnswer::Refused(code, offset),
-        JudgeAnswer::NoRoom => CompareAnswer::NoRoom,
-        JudgeAnswer::Broken(count, rule, broken) => CompareAnswer::Broken(count, rule, broken),
-        JudgeAnswer::Accepted(count) => {
-            let end = dataset::WIDTH * count;
-            compare_table(
-                bytes,
-                &rows[..end],
-                frame as usize,
-                cells,
-                tolerance as usize,
-                count,
-            )
-        }
-    }
+    let count = conformance::accept(bytes, rows)?;
+    let set = DataSet::new(bytes, &rows[..dataset::WIDTH * count]);
+    compare_table(&set, frame as usize, cells, tolerance as usize, count)
 }

@@ -3,58 +3,34 @@
 // first cell that is off and how many are off; or the refusal, in a line.
 #![tactic(auto)]
 
-ghost use Rattle.std.specs.Prelude.{◌≡◌, ◌≤◌, length};
-
-use argument::Decimal;
-use compare::CompareAnswer;
-use printing::{print_broken, print_code, print_field, print_unread};
-use std::env::{Env, FillError};
+use argument::{DIGITS, is_present, read_decimal};
+use compare::{CompareError, Comparison};
+use conformance::NotAccepted;
+use printing::{print_broken, print_code};
+use rowprint::print_error;
+use std::env::Env;
 use std::io;
 use std::io::{Read, Write};
 
 // The most bytes of data set and cells together: no frame of such a data set has more cells than it has bytes.
 const MOST_INPUT: usize = 131_072;
 
-// One byte more than is taken, to detect an input that is too long.
-fn input() -> [u8; 131_073]
-    ensures { 131073 ≡ length result }
-{
-    [0; 131_073]
-}
-
 fn print_no<W: Write>(to: &mut W, first: usize, count: usize) -> io::Result<()> {
-    print_field(to, b"no first", first)?;
-    print_field(to, b" count", count)?;
-    to.write_all(b"\n")
+    writeln!(to, "no first {first} count {count}")
 }
 
-fn print_answer<W: Write>(to: &mut W, answer: CompareAnswer) -> io::Result<()> {
+fn print_answer<W: Write>(to: &mut W, answer: Result<Comparison, CompareError>) -> io::Result<()> {
     match answer {
-        CompareAnswer::Same(_) => to.write_all(b"yes\n"),
-        CompareAnswer::Differs(_, first, count) => print_no(to, first, count),
-        CompareAnswer::Broken(rows, rule, frame) => print_broken(to, rows, rule, frame),
-        CompareAnswer::Refused(code, offset) => print_unread(to, code, offset),
-        CompareAnswer::TooLarge => print_code(to, 7),
-        CompareAnswer::NoRoom => print_code(to, 8),
-        CompareAnswer::NoFrame => print_code(to, 10),
-        CompareAnswer::WrongSize => print_code(to, 22),
-        CompareAnswer::WrongTolerance => print_code(to, 23),
+        Ok(Comparison::Same(_)) => writeln!(to, "yes"),
+        Ok(Comparison::Differs(_, first, count)) => print_no(to, first, count),
+        Err(CompareError::Refused(NotAccepted::Broken(rows, rule, frame))) => {
+            print_broken(to, rows, rule, frame)
+        }
+        Err(CompareError::Refused(NotAccepted::Unread(error))) => print_error(to, error),
+        Err(CompareError::NoFrame) => print_code(to, 10),
+        Err(CompareError::WrongSize) => print_code(to, 22),
+        Err(CompareError::WrongTolerance) => print_code(to, 23),
     }
-}
-
-fn compare_parts<W: Write>(
-    to: &mut W,
-    bytes: &[u8],
-    frame: u64,
-    cells: &[u8],
-    tolerance: u64,
-) -> io::Result<()>
-    requires { length bytes.now ≤ 65536 }
-{
-    print_answer(
-        to,
-        compare_small::compare_small(bytes, frame, cells, tolerance),
-    )
 }
 
 // Splits the input at the data set's end.
@@ -66,14 +42,16 @@ fn compare_input<W: Write>(
     size: usize,
 ) -> io::Result<()> {
     if room::MOST < size {
-        to.write_all(b"too long: a data set of at most 65536 bytes\n")?;
-        return Ok(());
+        return writeln!(to, "too long: a data set of at most {} bytes", room::MOST);
     }
     if input.len() < size {
-        to.write_all(b"length: the input is shorter\n")?;
-        return Ok(());
+        return writeln!(to, "length: the input is shorter");
     }
-    compare_parts(to, &input[..size], frame, &input[size..], tolerance)
+    let (bytes, cells) = input.split_at(size);
+    print_answer(
+        to,
+        compare_small::compare_small(bytes, frame, cells, tolerance),
+    )
 }
 
 fn read_input<R: Read, W: Write>(
@@ -83,35 +61,27 @@ fn read_input<R: Read, W: Write>(
     tolerance: u64,
     size: u64,
 ) -> io::Result<()> {
-    let mut bytes = input();
+    // One byte more than is taken, to detect an input that is too long.
+    let mut bytes = [0; MOST_INPUT + 1];
     let n = room::read_full(from, &mut bytes)?;
     if MOST_INPUT < n {
-        to.write_all(b"too long: at most 131072 bytes\n")?;
-        return Ok(());
+        return room::print_too_long(to, MOST_INPUT);
     }
     compare_input(to, &bytes[..n], frame, tolerance, size as usize)
 }
 
-fn is_present(rt: &impl Env, k: usize) -> bool {
-    let mut text = [0u8; 20];
-    match rt.arg(k, &mut text) {
-        Err(FillError::NotPresent) => false,
-        _ => true,
-    }
-}
-
-// The k-th argument.
-fn number(rt: &impl Env, k: usize) -> Decimal {
-    let mut text = [0u8; 20];
-    let Ok(n) = rt.arg(k, &mut text) else {
-        return Decimal::NotNumber;
-    };
-    argument::read_decimal(&text[..n])
+// The k-th argument, if it is a number.
+fn number(rt: &impl Env, k: usize) -> Option<u64> {
+    let mut text = [0u8; DIGITS];
+    let n = rt.arg(k, &mut text).ok()?;
+    read_decimal(&text[..n]).ok()
 }
 
 fn wanted<W: Write>(to: &mut W) -> io::Result<()> {
-    to.write_all(
-        b"frame, tolerance and length of the data set: three numbers up to 18446744073709551615 are wanted\n",
+    writeln!(
+        to,
+        "frame, tolerance and length of the data set: three numbers up to {} are wanted",
+        u64::MAX,
     )
 }
 
@@ -120,13 +90,11 @@ fn main(rt: HostRuntime) -> io::Result<()> {
     if !is_present(&rt, 3) || is_present(&rt, 4) {
         return wanted(&mut to);
     }
-    let Decimal::Number(frame) = number(&rt, 1) else {
-        return wanted(&mut to);
-    };
-    let Decimal::Number(tolerance) = number(&rt, 2) else {
-        return wanted(&mut to);
-    };
-    let Decimal::Number(size) = number(&rt, 3) else {
+    let (Some(frame), Some(tolerance), Some(size)) = (
+        number(&rt, 1),
+        number(&rt, 2),
+        number(&rt, 3),
+    ) else {
         return wanted(&mut to);
     };
     read_input(&mut rt.stdin(), &mut to, frame, tolerance, size)

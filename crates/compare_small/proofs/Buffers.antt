@@ -6,10 +6,10 @@ use lib.ListN.{length}
 use Rattle.dataset.specs.Answer.{flat, width}
 use Rattle.dataset.specs.Tree.{rows_of}
 use Rattle.node.specs.Nodes.{nodes_of}
-use Rattle.judge_small.proofs.Room.{roomy}
+use Rattle.judge_small.proofs.Room.{roomy-accept}
 use Rattle.compare.specs.Answer.{answer_for, compare_of}
 
 pub roomy-compare : (s : List ℕ) (f : ℕ) (cells : List ℕ) (t : ℕ) (buffer : List ℕ) → width * length s ≤ 8 * length buffer
     → compare_of s f cells t buffer ≡ compare_of s f cells t (flat (rows_of s))
 unfolding compare_of
-roomy-compare s f cells t buffer h = ap (answer_for (nodes_of s) f cells t) (roomy s buffer h)
+roomy-compare s f cells t buffer h = ap (answer_for (nodes_of s) f cells t) (roomy-accept s buffer h)

@@ -4,11 +4,16 @@
 ghost use Rattle.std.specs.Prelude.{◌≡◌, ◌≤◌, length};
 ghost use Rattle.compare_small.specs.Internal.{roomy_compare};
 
-use compare::CompareAnswer;
+use compare::{CompareError, Comparison};
 use room::row_buffer;
 
 // What `compare` answers; never code 8.
-pub fn compare_small(bytes: &[u8], frame: u64, cells: &[u8], tolerance: u64) -> CompareAnswer
+pub fn compare_small(
+    bytes: &[u8],
+    frame: u64,
+    cells: &[u8],
+    tolerance: u64,
+) -> Result<Comparison, CompareError>
     requires { length bytes.now ≤ 65536 }
     ensures { result ≡ roomy_compare bytes.now frame cells.now tolerance }
 {

@@ -1,5 +1,6 @@
 -- A rule that is asked at each frame is what the code asks of the shared item and the frame's item; any other rule does
 -- not look at the frame.
+use Rattle.std.specs.Prelude.{Option, Some, None}
 use mathlib.Core.Path.{◌≡◌, refl, sym, ap, ◌∙◌, subst}
 use Prim.Native.Nat.{ℕ, ◌-◌, ◌≤◌, ◌<◌}
 use native.Mathlib.Omega.{arith}
@@ -8,8 +9,6 @@ use mathlib.Core.Bool.{Bool, true, false, not, ◌&&◌, ◌||◌, true≢false}
 use lib.ListN.{drop}
 use lib.Dec.{eqb, leb}
 use borrow.Author.Tests.{le-leb, eqb-true, eqb-false, leb-true}
-use Rattle.value.specs.declared.Num.{Num}
-use Rattle.value.specs.declared.Num.TheVariants.{Is, None}
 use Rattle.verdict.specs.Verdict.{per_frame}
 use Rattle.node.specs.Nodes.{Node, inside}
 use Rattle.node.specs.Find.{holds, if_present, or_else, find}
@@ -23,6 +22,8 @@ use Rattle.element.specs.Frames.{shared_item, frame_item, frame_items}
 use Rattle.rules.specs.Frame.{at_frame, item27, item28, item29, item30, item37, rule27, rule28, rule29, rule30, rule37}
 use Rattle.rules.specs.Intensity.{is_lut_group, has_linear, is_log, item39, rule39}
 use Rattle.rules.specs.All.{rule_list, rule_at}
+use Rattle.intensity.specs.declared.Grade.{Grade}
+use Rattle.intensity.specs.declared.Grade.TheVariants.{Plain}
 use Rattle.intensity.specs.Internal.{grade, grade_on, grades_agree, relation_of, table_of, relation_in, table_in}
 use Rattle.rules_frame.specs.Internal.{group_tag, group_fits, group_holds, item_holds, item_grades, item_rule}
 
@@ -30,16 +31,16 @@ use Rattle.rules_frame.specs.Internal.{group_tag, group_fits, group_holds, item_
 at_same : (ns : List Node) (f : ℕ) (p q : ℕ → ℕ → Bool) → ((s i : ℕ) → p s i ≡ q s i) → at_frame ns f p ≡ at_frame ns f q
 at_same ns f p q e = go (shared_item ns) (frame_item ns f)
   where
-    go : (a b : Num) → holds a (λ s. holds b (λ i. p s i)) ≡ holds a (λ s. holds b (λ i. q s i))
+    go : (a b : Option ℕ) → holds a (λ s. holds b (λ i. p s i)) ≡ holds a (λ s. holds b (λ i. q s i))
     go None b = refl
-    go (Is s) None = refl
-    go (Is s) (Is i) = e s i
+    go (Some s) None = refl
+    go (Some s) (Some i) = e s i
 
 -- The group in the item, else the shared one.
-group-join : (a b : Num) (p : ℕ → Bool) → holds_or a p (holds_or b p true) ≡ if_present (or_else a b) p
+group-join : (a b : Option ℕ) (p : ℕ → Bool) → holds_or a p (holds_or b p true) ≡ if_present (or_else a b) p
 group-join None None p = refl
-group-join None (Is s) p = refl
-group-join (Is g) b p = refl
+group-join None (Some s) p = refl
+group-join (Some g) b p = refl
 
 -- Rule 39 is what the grades of its two groups say.
 grades-by : (a b c d : Bool) → (a && (c && (not b || d))) ≡ grades_agree (grade a b) (grade c d)
@@ -51,22 +52,22 @@ grades-by true false true true = refl
 grades-by true true true false = refl
 grades-by true true true true = refl
 
-grades-group : (a b : Num) (one log luts linear : ℕ → Bool)
+grades-group : (a b : Option ℕ) (one log luts linear : ℕ → Bool)
     → (if_present a one && (if_present b luts && (not (holds a log) || holds b linear)))
-    ≡ grades_agree (grade_on a (λ p. grade (one p) (log p)) 1) (grade_on b (λ g. grade (luts g) (linear g)) 1)
+    ≡ grades_agree (grade_on a (λ p. grade (one p) (log p)) Plain) (grade_on b (λ g. grade (luts g) (linear g)) Plain)
 grades-group None None one log luts linear = refl
-grades-group None (Is g) one log luts linear = grades-by true false (luts g) (linear g)
-grades-group (Is p) None one log luts linear = grades-by (one p) (log p) true false
-grades-group (Is p) (Is g) one log luts linear = grades-by (one p) (log p) (luts g) (linear g)
+grades-group None (Some g) one log luts linear = grades-by true false (luts g) (linear g)
+grades-group (Some p) None one log luts linear = grades-by (one p) (log p) true false
+grades-group (Some p) (Some g) one log luts linear = grades-by (one p) (log p) (luts g) (linear g)
 
-grade-join : (a b : Num) (of : ℕ → ℕ) → grade_on a of (grade_on b of 1) ≡ grade_on (or_else a b) of 1
+grade-join : (a b : Option ℕ) (of : ℕ → Grade) → grade_on a of (grade_on b of Plain) ≡ grade_on (or_else a b) of Plain
 grade-join None b of = refl
-grade-join (Is g) b of = refl
+grade-join (Some g) b of = refl
 
-grades-join : (a b c d : Num) (one log luts linear : ℕ → Bool)
+grades-join : (a b c d : Option ℕ) (one log luts linear : ℕ → Bool)
     → (if_present (or_else a b) one && (if_present (or_else c d) luts && (not (holds (or_else a b) log) || holds (or_else c d) linear)))
-    ≡ grades_agree (grade_on a (λ p. grade (one p) (log p)) (grade_on b (λ p. grade (one p) (log p)) 1))
-    (grade_on c (λ g. grade (luts g) (linear g)) (grade_on d (λ g. grade (luts g) (linear g)) 1))
+    ≡ grades_agree (grade_on a (λ p. grade (one p) (log p)) (grade_on b (λ p. grade (one p) (log p)) Plain))
+    (grade_on c (λ g. grade (luts g) (linear g)) (grade_on d (λ g. grade (luts g) (linear g)) Plain))
 grades-join a b c d one log luts linear =
     rw (grade-join a b (λ p. grade (one p) (log p)), grade-join c d (λ g. grade (luts g) (linear g)))
     (grades-group (or_else a b) (or_else c d) one log luts linear)
@@ -158,7 +159,7 @@ module _ (ns : List Node) (f : ℕ) where
 -- ---- The frame's item is the first of those that are left
 
 module _ (ns : List Node) (f : ℕ) (c : Items) (some : 1 ≤ f) (w : Along ns (drop (f - 1) (frame_items ns)) c) where
-  pub item-here : c.at < c.end → frame_item ns f ≡ Is c.at
+  pub item-here : c.at < c.end → frame_item ns f ≡ Some c.at
   item-here h = rw (le-leb 1 f some) (ap first (sym w.ahead ∙ members-next ns c.at c.end h))
 
   pub item-none : c.end ≤ c.at → frame_item ns f ≡ None

@@ -1,6 +1,8 @@
 -- Every answer of the judge is a possible verdict. A refusal's numbers are small, and a data set has few rows. A broken
 -- rule's frame is 0 where the rule is asked once; else it is 1 to N, and N is at most 65,535, since rule 15 stands before
 -- every rule that is asked at each frame and holds where a later one is named.
+use Rattle.std.specs.Prelude.{Option, Some, None}
+use Rattle.std.specs.Prelude.{Result, Ok, Err}
 use mathlib.Core.Path.{◌≡◌, refl}
 use mathlib.Core.Bool.{Bool, true, false, cond, ◌&&◌, ◌||◌}
 use mathlib.Core.List.{List}
@@ -10,13 +12,14 @@ use native.Mathlib.Omega.{arith}
 use borrow.Author.Tests.{eq-eqb, ne_eqb, eqb-true, leb-true, le-leb}
 use lib.Dec.{eqb, leb}
 use Rattle.value.specs.Number.{number_or0}
-use Rattle.dataset.specs.declared.ReadAnswer.{ReadAnswer}
-use Rattle.dataset.specs.declared.ReadAnswer.TheVariants as read
+use Rattle.dataset.specs.Fault.{refusal}
+use Rattle.dataset.specs.declared.Fault.{Fault}
+use Rattle.dataset.specs.declared.Fault.TheVariants.{CutShort, NotAscending, UnlistedVr, OddLength, NotDue, TooDeep}
+use Rattle.dataset.specs.declared.ReadError.{ReadError}
+use Rattle.dataset.specs.declared.ReadError.TheVariants as error
 use Rattle.dataset.specs.Reading.{reading_of}
 use Rattle.dataset.specs.Answer.{answer_of}
 use Rattle.dataset.proofs.Laws.{answer-small, Small as SmallAnswer}
-use Rattle.value.specs.declared.Num.{Num}
-use Rattle.value.specs.declared.Num.TheVariants.{Is, None}
 use Rattle.basics.specs.Limits.{most_rows, largest, last_frame}
 use Rattle.verdict.specs.Verdict.{last_rule, per_frame, frame_fits, fields_fit, count_fits, possible, writable}
 use Rattle.basics.proofs.Tests.{false-is-true, and_both, or-either}
@@ -36,9 +39,9 @@ use Rattle.conformance.proofs.First.{broken-first}
 -- ---- The frame of a broken rule
 
 -- Where rule 15 holds, there are at most 65,535 frames.
-few-frames : (o : Num) → holds o (λ n. leb 1 n && leb n last_frame) ≡ true → number_or0 o ≤ last_frame
+few-frames : (o : Option ℕ) → holds o (λ n. leb 1 n && leb n last_frame) ≡ true → number_or0 o ≤ last_frame
 few-frames None e = absurd (false-is-true e)
-few-frames (Is n) e = leb-true n last_frame (and_both (leb 1 n) (leb n last_frame) e).1
+few-frames (Some n) e = leb-true n last_frame (and_both (leb 1 n) (leb n last_frame) e).1
 
 rule15-few : (ns : List Node) → Holds ns 15 → number_or0 (frames_of ns) ≤ last_frame
 unfolding first_frame frame_count per_frame rule_at rule_list rule15
@@ -77,23 +80,24 @@ finding-fits ns (finding.Broken rule frame) e =
     let b = broken-first ns rule frame e in
     (b.low, (b.high, frame-fits ns rule frame b))
 
-answer-possible : (f : Finding) (a : ReadAnswer) → Fits f → SmallAnswer a → possible (verdict_of (answer_for f a)) ≡ true
+-- Each fault has one of the codes 1 to 6.
+refused-possible : (fault : Fault) (offset : ℕ) → offset ≤ largest → possible (verdict_of (Err (error.Refused (refusal fault offset)))) ≡ true
 unfolding possible fields_fit count_fits
-answer-possible finding.Accepted (read.Done n) w h = le-leb n most_rows h
-answer-possible (finding.Broken rule frame) (read.Done n) w h =
+refused-possible CutShort offset h = rw (le-leb offset largest h)
+refused-possible NotAscending offset h = rw (le-leb offset largest h)
+refused-possible UnlistedVr offset h = rw (le-leb offset largest h)
+refused-possible OddLength offset h = rw (le-leb offset largest h)
+refused-possible NotDue offset h = rw (le-leb offset largest h)
+refused-possible TooDeep offset h = rw (le-leb offset largest h)
+
+answer-possible : (f : Finding) (a : Result ℕ ReadError) → Fits f → SmallAnswer a → possible (verdict_of (answer_for f a)) ≡ true
+unfolding possible fields_fit count_fits
+answer-possible finding.Accepted (Ok n) w h = le-leb n most_rows h
+answer-possible (finding.Broken rule frame) (Ok n) w h =
     rw (le-leb 1 rule w.0, le-leb rule last_rule w.1.0, w.1.1, le-leb n most_rows h)
-answer-possible f (read.Refused code offset) w h =
-    rw (
-      ne_eqb code 0 (λ e. omega (arith, e, h.0)),
-      ne_eqb code 7 (λ e. omega (arith, e, h.1.0)),
-      ne_eqb code 8 (λ e. omega (arith, e, h.1.0)),
-      ne_eqb code 9 (λ e. omega (arith, e, h.1.0)),
-      le-leb 1 code h.0,
-      le-leb code 6 h.1.0,
-      le-leb offset largest h.1.1,
-    )
-answer-possible f read.TooLarge w h = refl
-answer-possible f read.NoRoom w h = refl
+answer-possible f (Err (error.Refused r)) w h = refused-possible r.fault r.offset h.1.1
+answer-possible f (Err error.TooLarge) w h = refl
+answer-possible f (Err error.NoRoom) w h = refl
 
 possible-answer : (s buffer : List ℕ) → possible (verdict_of (judge_of s buffer)) ≡ true
 unfolding judge_of
@@ -111,12 +115,12 @@ judge-possible s buffer = rw (possible-answer s buffer)
 pub judge-small : (s buffer : List ℕ) → Small (verdict_of (judge_of s buffer))
 judge-small s buffer = possible-small (verdict_of (judge_of s buffer)) (possible-answer s buffer)
 
-rows_few : (f : Finding) (a : ReadAnswer) → SmallAnswer a → (fields_of (answer_for f a)).rows ≤ most_rows
-rows_few finding.Accepted (read.Done n) h = h
-rows_few (finding.Broken rule frame) (read.Done n) h = h
-rows_few f (read.Refused code offset) h = omega arith
-rows_few f read.TooLarge h = omega arith
-rows_few f read.NoRoom h = omega arith
+rows_few : (f : Finding) (a : Result ℕ ReadError) → SmallAnswer a → (fields_of (answer_for f a)).rows ≤ most_rows
+rows_few finding.Accepted (Ok n) h = h
+rows_few (finding.Broken rule frame) (Ok n) h = h
+rows_few f (Err (error.Refused r)) h = omega arith
+rows_few f (Err error.TooLarge) h = omega arith
+rows_few f (Err error.NoRoom) h = omega arith
 
 pub judge-rows : (s buffer : List ℕ) → (fields_of (judge_of s buffer)).rows ≤ most_rows
 unfolding judge_of

@@ -4,13 +4,13 @@
 -- rule holds at every lower frame. Either way it names the number of rows, the row buffer holds the rows of that reading and is untouched
 -- beyond them, and the answer can be written on a slip. And every verdict that can be written on a slip is read back as that verdict,
 -- with its row count. A rule that is asked at each frame is asked at frames 1 to N, any other once, at frame 0. Proved in proofs/Demand2.
-use Rattle.std.specs.Prelude.{◌≡◌, true, false, List, ◌++◌, ◌⊎◌, ℕ, ◌+◌, ◌*◌, ◌≤◌, ◌<◌, length, drop}
-use Rattle.dataset.specs.Reading.{Row, reading_of, read}
+use Rattle.std.specs.Prelude.{◌≡◌, true, false, List, ◌++◌, ◌⊎◌, ℕ, ◌+◌, ◌*◌, ◌≤◌, ◌<◌, length, drop, Ok}
+use Rattle.dataset.specs.Reading.{reading_of, read}
+use Rattle.dataset.specs.declared.Row.{Row}
 use Rattle.dataset.specs.Answer.{width, flat, buffer_of}
 use Rattle.node.specs.Nodes.{Node, nodes_of}
 use Rattle.verdict.specs.Verdict.{last_rule, writable}
 use Rattle.verdict.specs.declared.Verdict.{Verdict}
-use Rattle.slip.specs.declared.SlipAnswer.TheVariants as slip
 use Rattle.slip.specs.Slip.{slip_of, read_of}
 use Rattle.rules.specs.All.{rule_at}
 use Rattle.conformance.specs.Judging.{first_frame, frame_count, judge_of, fields_of, verdict_of}
@@ -58,4 +58,4 @@ pub record Demand2 : Type 0 where
   -- Every answer of `judge` can be written on a slip,
   pub recorded : (s buffer : List ℕ) → writable (verdict_of (judge_of s buffer)) ≡ true
   -- and what is written is read back.
-  pub read_back : (v : Verdict) → writable v ≡ true → read_of (slip_of v) ≡ slip.Read v
+  pub read_back : (v : Verdict) → writable v ≡ true → read_of (slip_of v) ≡ Ok v

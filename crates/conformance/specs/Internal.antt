@@ -1,23 +1,22 @@
 -- How the judge's loops ask the rules. None of this is in the papers.
-use Rattle.std.specs.Prelude.{◌≡◌, ℕ, ◌+◌, ◌-◌, ◌≤◌, List, true, false, cond, drop}
-use Rattle.value.specs.declared.Num.{Num}
-use Rattle.value.specs.declared.Num.TheVariants.{Is, None}
+use Rattle.std.specs.Prelude.{◌≡◌, ℕ, ◌+◌, ◌-◌, ◌≤◌, List, true, false, cond, drop, Option, Some, None}
 use Rattle.verdict.specs.Verdict.{per_frame, last_rule}
 use Rattle.node.specs.Nodes.{Node}
 use Rattle.element.specs.declared.Items.{Items}
 use Rattle.element.specs.Internal.{Along}
 use Rattle.element.specs.Frames.{frame_items}
 use Rattle.rules_frame.specs.declared.SharedPart.{SharedPart}
+use Rattle.rules_frame.specs.declared.SharedPart.TheVariants.{Holds}
 use Rattle.rules_frame.specs.Internal.{shared_part}
 
--- The result for a rule that asks nothing of the shared item.
+-- The part of a rule that asks nothing of the shared item.
 abbrev pub no_part : SharedPart
-no_part = record { ok = true; relation = 1; table = 1 }
+no_part = Holds true
 
 -- The part of a per-frame rule in the shared item; any other rule asks nothing there.
-abbrev pub part_for : List Node → ℕ → Num → SharedPart
+abbrev pub part_for : List Node → ℕ → Option ℕ → SharedPart
 part_for ns rule None = no_part
-part_for ns rule (Is s) = cond (per_frame rule) (shared_part ns rule s) no_part
+part_for ns rule (Some s) = cond (per_frame rule) (shared_part ns rule s) no_part
 
 -- The number after that of the last rule.
 abbrev pub end_rule : ℕ

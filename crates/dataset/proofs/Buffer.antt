@@ -7,7 +7,7 @@ use native.Mathlib.Nat.{add-zero}
 use mathlib.Core.List.{List, [], ◌∷◌, ◌++◌}
 use lib.ListN.{length, set, drop}
 use lib.Seq.{sets, set-set, set_comm, sets-eq}
-use Rattle.dataset.specs.Reading.{Row}
+use Rattle.dataset.specs.declared.Row.{Row}
 use Rattle.dataset.specs.Answer.{flat, width}
 
 pub length-flat : (rs : List Row) → length (flat rs) ≡ width * length rs

@@ -11,10 +11,15 @@ use mathlib.Core.List.{List, [], ◌∷◌, ◌++◌}
 use lib.ListN.{length, get_or, get_or-append}
 use lib.Seq.{get_or-append-add}
 use Rattle.basics.specs.Limits.{most_rows, largest}
-use Rattle.dataset.specs.declared.ReadAnswer.{ReadAnswer}
-use Rattle.dataset.specs.declared.ReadAnswer.TheVariants as answer
+use Rattle.std.specs.Prelude.{Result, Ok, Err}
+use Rattle.dataset.specs.declared.Fault.{Fault}
+use Rattle.dataset.specs.declared.Fault.TheVariants as faults
+use Rattle.dataset.specs.declared.ReadError.{ReadError}
+use Rattle.dataset.specs.declared.ReadError.TheVariants as errors
+use Rattle.dataset.specs.Fault.{code_of}
 use Rattle.basics.specs.Vr.{form_of, listed, SQ}
-use Rattle.dataset.specs.Reading.{Row, Reading, too_large, refused_at, read, reading_of, depths}
+use Rattle.dataset.specs.declared.Row.{Row}
+use Rattle.dataset.specs.Reading.{Reading, too_large, refused_at, read, reading_of, depths}
 use Rattle.dataset.specs.Answer.{flat, fits, answer_of, width}
 use Rattle.dataset.specs.Tree.{rows_of, row_at, next_row, Kind, elements, items, Member, kind_inside, depth_inside, Members}
 use Rattle.dataset.proofs.Tree.{Reads, reading-reads, rows-read, rows-members}
@@ -22,22 +27,30 @@ use Rattle.dataset.proofs.Tree.{Reads, reading-reads, rows-read, rows-members}
 -- ---- The numbers of an answer and of a buffer
 
 -- The numbers of an answer are small.
-abbrev pub Small : ReadAnswer → Type 0
-Small (answer.Done n) = n ≤ most_rows
-Small (answer.Refused code offset) = (1 ≤ code) × ((code ≤ 6) × (offset ≤ largest))
-Small answer.TooLarge = Unit {0}
-Small answer.NoRoom = Unit {0}
+abbrev pub Small : Result ℕ ReadError → Type 0
+Small (Ok n) = n ≤ most_rows
+Small (Err (errors.Refused r)) = (1 ≤ code_of r.fault) × ((code_of r.fault ≤ 6) × (r.offset ≤ largest))
+Small (Err errors.TooLarge) = Unit {0}
+Small (Err errors.NoRoom) = Unit {0}
+
+pub code-small : (fault : Fault) → (1 ≤ code_of fault) × (code_of fault ≤ 6)
+code-small faults.CutShort = omega arith
+code-small faults.NotAscending = omega arith
+code-small faults.UnlistedVr = omega arith
+code-small faults.OddLength = omega arith
+code-small faults.NotDue = omega arith
+code-small faults.TooDeep = omega arith
 
 pub answer-small : (s buffer : List ℕ) → Small (answer_of (reading_of s) buffer)
 answer-small s buffer = by-reading (reading_of s) (reading-reads s)
   where
-    by-room : (t : Bool) (n : ℕ) → n ≤ most_rows → Small (cond t (answer.Done n) answer.NoRoom)
+    by-room : (t : Bool) (n : ℕ) → n ≤ most_rows → Small (cond t (Ok n) (Err errors.NoRoom))
     by-room true n h = h
     by-room false n h = tt
 
     by-reading : (o : Reading) → Reads s o → Small (answer_of o buffer)
     by-reading too_large r = tt
-    by-reading (refused_at code offset) r = r
+    by-reading (refused_at fault offset) r = let k = code-small fault in (k.0, (k.1, r))
     by-reading (read rows) r = by-room (fits rows buffer) (length rows) r.small
 
 -- The numbers of row i stand side by side, whatever follows the rows.

@@ -13,41 +13,47 @@ use Rattle.dataset.specs.declared.Cursor.{Cursor}
 use Rattle.dataset.specs.declared.Head.{Head}
 use Rattle.dataset.specs.declared.Head.TheVariants as heads
 use Rattle.dataset.specs.declared.Walk.{Walk}
-use Rattle.dataset.specs.declared.Walk.TheVariants as walk
-use Rattle.dataset.specs.declared.Leaf.{Leaf}
+use Rattle.dataset.specs.declared.Fault.{Fault}
+use Rattle.dataset.specs.declared.Refusal.{Refusal}
+use Rattle.dataset.specs.Fault.{refusal}
+use Rattle.std.specs.Prelude.{Option, Result, Ok, Err}
 use Rattle.basics.specs.Vr.{SQ}
 use Rattle.dataset.specs.Header.{moved}
-use Rattle.dataset.specs.Reading.{Row, row, Run, done, refused, on_head, on_run, level, value_run}
+use Rattle.dataset.specs.declared.Row.{Row}
+use Rattle.dataset.specs.Reading.{row, Run, done, refused, on_head, on_run, level, value_run}
 use Rattle.dataset.specs.Answer.{flat, width}
-use Rattle.dataset.specs.Internal.{Within, RunWithin, Walked, Replaced, LeafWalked, items_at}
+use Rattle.dataset.specs.Internal.{Within, RunWithin, Walked, Replaced, LeafWalked, items_at, walk, told}
 use Rattle.dataset.proofs.Buffer.{length-flat, flat_append, sets-append, sets_over, row-over}
 
 -- ---- A header and a walk, once it is known which they are
 
-pub within : (c : Cursor) {h g : Head} → h ≡ g → Within c h → Within c g
-within c e w = subst (λ (x : Head). Within c x) e w
+pub found : {r : Result Head Fault} {x y : Head} → r ≡ Ok x → x ≡ y → r ≡ Ok y
+found e f = e ∙ ap (λ (h : Head). Ok h) f
 
-pub walked : {o : Run} {c : Cursor} {first : ℕ} {buffer after : List ℕ} {r q : Walk} → r ≡ q → Walked o c first buffer after r
+pub within : (c : Cursor) {h g : Result Head Fault} → h ≡ g → Within c h → Within c g
+within c e w = subst (λ (x : Result Head Fault). Within c x) e w
+
+pub walked : {o : Run} {c : Cursor} {first : ℕ} {buffer after : List ℕ} {r q : Result Walk Refusal} → r ≡ q → Walked o c first buffer after r
     → Walked o c first buffer after q
-walked {o} {c} {first} {buffer} {after} e w = subst (λ (x : Walk). Walked o c first buffer after x) e w
+walked {o} {c} {first} {buffer} {after} e w = subst (λ (x : Result Walk Refusal). Walked o c first buffer after x) e w
 
-pub of-run : {o p : Run} {c : Cursor} {first : ℕ} {buffer after : List ℕ} {r : Walk} → o ≡ p → Walked o c first buffer after r
+pub of-run : {o p : Run} {c : Cursor} {first : ℕ} {buffer after : List ℕ} {r : Result Walk Refusal} → o ≡ p → Walked o c first buffer after r
     → Walked p c first buffer after r
 of-run {o} {p} {c} {first} {buffer} {after} {r} e w = subst (λ (x : Run). Walked x c first buffer after r) e w
 
-pub leaf_walked : (o : Run) (c : Cursor) (first : ℕ) (buffer after : List ℕ) {r q : Leaf} → r ≡ q → LeafWalked o c first buffer after r
+pub leaf_walked : (o : Run) (c : Cursor) (first : ℕ) (buffer after : List ℕ) {r q : Result (Option Walk) Refusal} → r ≡ q → LeafWalked o c first buffer after r
     → LeafWalked o c first buffer after q
-leaf_walked o c first buffer after e w = subst (λ (x : Leaf). LeafWalked o c first buffer after x) e w
+leaf_walked o c first buffer after e w = subst (λ (x : Result (Option Walk) Refusal). LeafWalked o c first buffer after x) e w
 
 -- A walk over what a given up walk left behind.
-pub over : (o : Run) {c : Cursor} {first : ℕ} {buffer after last : List ℕ} {r : Walk} → length after ≡ length buffer
+pub over : (o : Run) {c : Cursor} {first : ℕ} {buffer after last : List ℕ} {r : Result Walk Refusal} → length after ≡ length buffer
     → Replaced first o buffer after
     → Walked o c first after last r → Walked o c first buffer last r
 over (done stop next rows) l p w = record { is = w.is; within = w.within; wrote = λ h. w.wrote (omega arith) ∙ p h }
-over (refused code offset) l p w = record { is = w.is; within = w.within; wrote = tt }
+over (refused fault offset) l p w = record { is = w.is; within = w.within; wrote = tt }
 
 -- What stands at a cursor that was moved along its level.
-pub stands : (c here : Cursor) (f : Cursor → Head) {h g : Head} → here ≡ moved c here.at → (h ≡ f here) × Within here h → h ≡ g
+pub stands : (c here : Cursor) (f : Cursor → Result Head Fault) {h g : Result Head Fault} → here ≡ moved c here.at → (h ≡ f here) × Within here h → h ≡ g
     → (f (moved c here.at) ≡ g) × Within (moved c here.at) g
 stands c here f {h} {g} e p q = (sym (ap f e) ∙ sym p.0 ∙ q, subst (λ (x : Cursor). Within x g) e (within here q p.1))
 
@@ -57,67 +63,57 @@ moved-along c here r {next} e p =
     (p ∙ ap (λ (x : Cursor). moved x next) e ∙ ap (λ (x : ℕ). moved c x) (sym a), a)
 
 -- What a walk that was done says of its run.
-pub record Below (o : Run) (v : Cursor) (first : ℕ) (buffer after : List ℕ) (stop next m : ℕ) : Type 0 where
+pub record Below (o : Run) (v : Cursor) (first : ℕ) (buffer after : List ℕ) (w : Walk) : Type 0 where
   pub rows : List Row
-  pub is : o ≡ done stop next rows
-  pub count : m ≡ first + length rows
-  pub within : RunWithin v (done stop next rows)
-  pub wrote : width * m ≤ length buffer → after ≡ sets buffer (width * first) (flat rows)
+  pub is : o ≡ done w.stop w.next rows
+  pub count : w.rows ≡ first + length rows
+  pub within : RunWithin v (done w.stop w.next rows)
+  pub wrote : width * w.rows ≤ length buffer → after ≡ sets buffer (width * first) (flat rows)
 
-pub below : (o : Run) {v : Cursor} {first : ℕ} {buffer after : List ℕ} {stop next m : ℕ}
-    → Walked o v first buffer after (walk.Done stop next m)
-    → Below o v first buffer after stop next m
-below (done stop' next' rows) {v} {first} {buffer} {after} {stop} {next} {m} w =
-    let t : walk.Done stop next m ≡ walk.Done stop' next' (first + length rows) = w.is in
-    let e : stop ≡ stop' = cc in
-    let f : next ≡ next' = cc in
-    let g : m ≡ first + length rows = cc in
-    record {
-      rows = rows;
-      is = cc;
-      count = g;
-      within = omega (arith, w.within);
-      wrote = λ h. w.wrote (omega arith);
-    }
-below (refused code offset) {v} {first} {buffer} {after} {stop} {next} {m} w =
-    let t : walk.Done stop next m ≡ walk.Refused code offset = w.is in
+pub below : (o : Run) {v : Cursor} {first : ℕ} {buffer after : List ℕ} {w : Walk} → Walked o v first buffer after (Ok w)
+    → Below o v first buffer after w
+below (done stop next rows) {v} {first} {buffer} {after} {w} r =
+    let t : told first (done stop next rows) ≡ Ok w = sym r.is in
+    let e : walk stop next (first + length rows) ≡ w = cc in
+    subst (λ (x : Walk). Below (done stop next rows) v first buffer after x) e
+    (record { rows = rows; is = refl; count = refl; within = r.within; wrote = r.wrote })
+below (refused fault offset) {w} r =
+    let t : Ok w ≡ Err (refusal fault offset) = r.is in
     let z : ◌≡◌ {A = ℕ} 0 1 = cc in
     absurd (omega arith)
 
 -- What a walk that was refused says of its run.
-pub stopped : (o : Run) {v : Cursor} {first : ℕ} {buffer after : List ℕ} {code offset : ℕ}
-    → Walked o v first buffer after (walk.Refused code offset)
-    → (o ≡ refused code offset) × RunWithin v (refused code offset)
-stopped (done stop next rows) {v} {first} {buffer} {after} {code} {offset} w =
-    let t : walk.Refused code offset ≡ walk.Done stop next (first + length rows) = w.is in
+pub stopped : (o : Run) {v : Cursor} {first : ℕ} {buffer after : List ℕ} {r : Refusal} → Walked o v first buffer after (Err r)
+    → (o ≡ refused r.fault r.offset) × RunWithin v (refused r.fault r.offset)
+stopped (done stop next rows) {first} {r} w =
+    let t : Err r ≡ Ok (walk stop next (first + length rows)) = w.is in
     let z : ◌≡◌ {A = ℕ} 0 1 = cc in
     absurd (omega arith)
-stopped (refused code' offset') {v} {first} {buffer} {after} {code} {offset} w =
-    let t : walk.Refused code offset ≡ walk.Refused code' offset' = w.is in
-    let e : code ≡ code' = cc in
-    let f : offset ≡ offset' = cc in
-    (cc, omega (arith, w.within))
+stopped (refused fault offset) {v} {first} {buffer} {after} {r} w =
+    let t : Err (refusal fault offset) ≡ Err r = sym w.is in
+    let e : refusal fault offset ≡ r = cc in
+    subst (λ (x : Refusal). (refused fault offset ≡ refused x.fault x.offset) × RunWithin v (refused x.fault x.offset)) e (refl, w.within)
 
 -- ---- One turn
 
-module _ (head : ℕ → ℕ → Head) (inside : ℕ → ℕ → Cursor → Run) (depth first turns at least : ℕ) (rows : List Row) where
-  pub level-refused : (code : ℕ) → head at least ≡ heads.Refused code
-      → level head inside depth first (suc turns) at least rows ≡ refused code at
+module _ (head : ℕ → ℕ → Result Head Fault) (inside : ℕ → ℕ → Cursor → Run) (depth first turns at least : ℕ) (rows : List Row) where
+  pub level-refused : (fault : Fault) → head at least ≡ Err fault
+      → level head inside depth first (suc turns) at least rows ≡ refused fault at
   unfolding level
-  level-refused code e = rw e
+  level-refused fault e = rw e
 
-  pub level-end : (tag vr : ℕ) (next : Cursor) → head at least ≡ heads.End tag vr next
+  pub level-end : (tag vr : ℕ) (next : Cursor) → head at least ≡ Ok (heads.End tag vr next)
       → level head inside depth first (suc turns) at least rows ≡ done at next.at rows
   unfolding level
   level-end tag vr next e = rw e
 
-  pub level-stop : (tag vr code offset : ℕ) (v : Cursor) → head at least ≡ heads.Header tag vr v
-      → inside (first + length rows + 1) vr v ≡ refused code offset
-      → level head inside depth first (suc turns) at least rows ≡ refused code offset
+  pub level-stop : (tag vr : ℕ) (fault : Fault) (offset : ℕ) (v : Cursor) → head at least ≡ Ok (heads.Header tag vr v)
+      → inside (first + length rows + 1) vr v ≡ refused fault offset
+      → level head inside depth first (suc turns) at least rows ≡ refused fault offset
   unfolding level
-  level-stop tag vr code offset v e f = rw (e, f)
+  level-stop tag vr fault offset v e f = rw (e, f)
 
-  pub level-on : (tag vr stop next : ℕ) (v : Cursor) (below : List Row) → head at least ≡ heads.Header tag vr v
+  pub level-on : (tag vr stop next : ℕ) (v : Cursor) (below : List Row) → head at least ≡ Ok (heads.Header tag vr v)
       → inside (first + length rows + 1) vr v ≡ done stop next below
       → level head inside depth first (suc turns) at least rows
       ≡ level head inside depth first turns next (tag + 1) (rows ++ (row tag vr depth v.at (stop - v.at) (length below) first ∷ below))
@@ -125,7 +121,7 @@ module _ (head : ℕ → ℕ → Head) (inside : ℕ → ℕ → Cursor → Run)
   level-on tag vr stop next v below e f = rw (e, f)
 
 -- A level that is done has the rows so far among its rows.
-pub level-grows : (head : ℕ → ℕ → Head) (inside : ℕ → ℕ → Cursor → Run) (depth first turns at least : ℕ) (rows : List Row) (stop next : ℕ)
+pub level-grows : (head : ℕ → ℕ → Result Head Fault) (inside : ℕ → ℕ → Cursor → Run) (depth first turns at least : ℕ) (rows : List Row) (stop next : ℕ)
     (all : List Row)
     → level head inside depth first turns at least rows ≡ done stop next all → length rows ≤ length all
 unfolding level
@@ -143,30 +139,30 @@ level-grows head inside depth first (suc turns) at least rows stop next all e =
         → on_run r (λ stop next below. level head inside depth first turns next (tag + 1)
         (rows ++ (row tag vr depth v.at (stop - v.at) (length below) first ∷ below))) ≡ done stop next all
         → length rows ≤ length all
-    by-run (refused code offset) tag vr v go q =
+    by-run (refused fault offset) tag vr v go q =
         let z : ◌≡◌ {A = ℕ} 0 1 = cc in
         absurd (omega arith)
     by-run (done stop' next' below) tag vr v go q =
         let new : List Row = row tag vr depth v.at (stop' - v.at) (length below) first ∷ below in
         omega (arith, go next' tag new q, length-append rows new)
 
-    by-head : (h : Head) → Go
-        → on_head h (λ code. refused code at) (λ next. done at next rows)
+    by-head : (h : Result Head Fault) → Go
+        → on_head h (λ fault. refused fault at) (λ next. done at next rows)
         (λ tag vr value. on_run (inside (first + length rows + 1) vr value) (λ stop next below. level head inside depth first turns next
         (tag + 1) (rows ++ (row tag vr depth value.at (stop - value.at) (length below) first ∷ below))))
         ≡ done stop next all
         → length rows ≤ length all
-    by-head (heads.Refused code) go q =
+    by-head (Err fault) go q =
         let z : ◌≡◌ {A = ℕ} 0 1 = cc in
         absurd (omega arith)
-    by-head (heads.End tag vr next') go q =
+    by-head (Ok (heads.End tag vr next')) go q =
         let f : rows ≡ all = cc in
         omega (arith, ap (λ (l : List Row). length l) f)
-    by-head (heads.Header tag vr v) go q = by-run (inside (first + length rows + 1) vr v) tag vr v go q
+    by-head (Ok (heads.Header tag vr v)) go q = by-run (inside (first + length rows + 1) vr v) tag vr v go q
 
 -- ---- The loop: at `at`, with the rows so far, what is left to read comes to what the whole level does
 
-pub record Inv (head : ℕ → ℕ → Head) (inside : ℕ → ℕ → Cursor → Run) (depth : ℕ) (o : Run) (start end first : ℕ) (buffer₀ buffer : List ℕ)
+pub record Inv (head : ℕ → ℕ → Result Head Fault) (inside : ℕ → ℕ → Cursor → Run) (depth : ℕ) (o : Run) (start end first : ℕ) (buffer₀ buffer : List ℕ)
     (at n least : ℕ) : Type 0 where
   pub rows : List Row
   pub turns : ℕ
@@ -179,7 +175,7 @@ pub record Inv (head : ℕ → ℕ → Head) (inside : ℕ → ℕ → Cursor �
   pub kept : length buffer ≡ length buffer₀
   pub wrote : width * n ≤ length buffer₀ → buffer ≡ sets buffer₀ (width * first) (flat rows)
 
-module _ (head : ℕ → ℕ → Head) (inside : ℕ → ℕ → Cursor → Run) (depth : ℕ) (o : Run) (c : Cursor) (first : ℕ) (buffer₀ : List ℕ) where
+module _ (head : ℕ → ℕ → Result Head Fault) (inside : ℕ → ℕ → Cursor → Run) (depth : ℕ) (o : Run) (c : Cursor) (first : ℕ) (buffer₀ : List ℕ) where
   abbrev pub Here : List ℕ → ℕ → ℕ → ℕ → Type 0
   Here buffer at n least = Inv head inside depth o c.at c.end first buffer₀ buffer at n least
 
@@ -217,70 +213,69 @@ module _ (head : ℕ → ℕ → Head) (inside : ℕ → ℕ → Cursor → Run)
       }
 
   module _ {buffer : List ℕ} {at n least : ℕ} (i : Here buffer at n least) where
-    pub ended-run : {tag vr : ℕ} {next : Cursor} → head at least ≡ heads.End tag vr next → done at next.at i.rows ≡ o
+    pub ended-run : {tag vr : ℕ} {next : Cursor} → head at least ≡ Ok (heads.End tag vr next) → done at next.at i.rows ≡ o
     ended-run {tag} {vr} {next} e =
         let m = turn at least i.rows i.turns i.high i.rest i.enough in
         sym (level-end head inside depth first m.0 at least i.rows tag vr next e) ∙ m.1.0
 
-    pub ended : {tag vr : ℕ} {next : Cursor} → head at least ≡ heads.End tag vr next → at ≤ next.at → next.at ≤ c.end
-        → Walked o c first buffer₀ buffer (walk.Done at next.at n)
+    pub ended : {tag vr : ℕ} {next : Cursor} → head at least ≡ Ok (heads.End tag vr next) → at ≤ next.at → next.at ≤ c.end
+        → Walked o c first buffer₀ buffer (Ok (walk at next.at n))
     ended {tag} {vr} {next} e p q =
         let d : done at next.at i.rows ≡ o = ended-run e in
-        subst (λ (x : Run). Walked x c first buffer₀ buffer (walk.Done at next.at n)) d
+        subst (λ (x : Run). Walked x c first buffer₀ buffer (Ok (walk at next.at n))) d
         (record {
-          is = ap (λ (k : ℕ). walk.Done at next.at k) i.count;
+          is = ap (λ (k : ℕ). Ok (walk at next.at k)) i.count;
           within = omega (arith, i.low, i.few);
           wrote = λ h. i.wrote (omega (arith, i.count));
         })
 
-    pub refuses : {code : ℕ} → head at least ≡ heads.Refused code → (1 ≤ code) × (code ≤ 6)
-        → Walked o c first buffer₀ buffer (walk.Refused code at)
-    refuses {code} e p =
+    pub refuses : {fault : Fault} → head at least ≡ Err fault → Walked o c first buffer₀ buffer (Err (refusal fault at))
+    refuses {fault} e =
         let m = turn at least i.rows i.turns i.high i.rest i.enough in
-        let d : refused code at ≡ o = sym (level-refused head inside depth first m.0 at least i.rows code e) ∙ m.1.0 in
-        subst (λ (x : Run). Walked x c first buffer₀ buffer (walk.Refused code at)) d
-        (record { is = refl; within = (p.0, (p.1, (i.low, i.high))); wrote = tt })
+        let d : refused fault at ≡ o = sym (level-refused head inside depth first m.0 at least i.rows fault e) ∙ m.1.0 in
+        subst (λ (x : Run). Walked x c first buffer₀ buffer (Err (refusal fault at))) d
+        (record { is = refl; within = (i.low, i.high); wrote = tt })
 
     -- The walk is given up here.
     pub given-up : Replaced first o buffer₀ buffer
     given-up = by-run o i.rest
       where
         by-run : (x : Run) → level head inside depth first i.turns at least i.rows ≡ x → Replaced first x buffer₀ buffer
-        by-run (refused code offset) e = tt
+        by-run (refused fault offset) e = tt
         by-run (done stop next all) e = λ h.
             let g : length i.rows ≤ length all = level-grows head inside depth first i.turns at least i.rows stop next all e in
             ap (λ (b : List ℕ). sets b (width * first) (flat all)) (i.wrote (omega (arith, i.count)))
             ∙ sets_over (flat i.rows) (flat all) buffer₀ (width * first) (omega (arith, length-flat i.rows, length-flat all))
 
     -- The next turn, and the rows that it has more.
-    pub record Next (tag vr : ℕ) (v : Cursor) (after : List ℕ) (stop next m : ℕ) : Type 0 where
+    pub record Next (tag vr : ℕ) (v : Cursor) (after : List ℕ) (w : Walk) : Type 0 where
       pub inner : List Row
-      pub is : inside (n + 1) vr v ≡ done stop next inner
-      pub here : Here after next m (tag + 1)
-      pub more : here.rows ≡ i.rows ++ (row tag vr depth v.at (stop - v.at) (length inner) first ∷ inner)
+      pub is : inside (n + 1) vr v ≡ done w.stop w.next inner
+      pub here : Here after w.next w.rows (tag + 1)
+      pub more : here.rows ≡ i.rows ++ (row tag vr depth v.at (w.stop - v.at) (length inner) first ∷ inner)
 
-    module _ {tag vr : ℕ} {v : Cursor} (e : head at least ≡ heads.Header tag vr v)
-        (w : Within (record { at = at; end = c.end; delimited = c.delimited }) (heads.Header tag vr v)) {buffer₁ : List ℕ} where
-      pub fails : {code offset : ℕ} → Walked (inside (n + 1) vr v) v (n + 1) buffer buffer₁ (walk.Refused code offset)
-          → Walked o c first buffer₀ buffer₁ (walk.Refused code offset)
-      fails {code} {offset} u =
+    module _ {tag vr : ℕ} {v : Cursor} (e : head at least ≡ Ok (heads.Header tag vr v))
+        (w : Within (record { at = at; end = c.end; delimited = c.delimited }) (Ok (heads.Header tag vr v))) {buffer₁ : List ℕ} where
+      pub fails : {r : Refusal} → Walked (inside (n + 1) vr v) v (n + 1) buffer buffer₁ (Err r)
+          → Walked o c first buffer₀ buffer₁ (Err r)
+      fails {r} u =
           let k = stopped (inside (n + 1) vr v) u in
           let m = turn at least i.rows i.turns i.high i.rest i.enough in
-          let d : refused code offset ≡ o = sym (level-stop head inside depth first m.0 at least i.rows tag vr code offset v e
+          let d : refused r.fault r.offset ≡ o = sym (level-stop head inside depth first m.0 at least i.rows tag vr r.fault r.offset v e
           (ap (λ (x : ℕ). inside x vr v) (omega (arith, i.count)) ∙ k.0)) ∙ m.1.0 in
-          subst (λ (x : Run). Walked x c first buffer₀ buffer₁ (walk.Refused code offset)) d
+          subst (λ (x : Run). Walked x c first buffer₀ buffer₁ (Err r)) d
           (record { is = refl; within = omega (arith, k.1, i.low, w); wrote = tt })
 
-      pub onward : {stop next m : ℕ} {buffer₂ : List ℕ} → length buffer₁ ≡ length buffer → length buffer₂ ≡ length buffer₁
-          → Walked (inside (n + 1) vr v) v (n + 1) buffer buffer₁ (walk.Done stop next m)
+      pub onward : {f : Walk} {buffer₂ : List ℕ} (descendants : ℕ) → length buffer₁ ≡ length buffer → length buffer₂ ≡ length buffer₁
+          → Walked (inside (n + 1) vr v) v (n + 1) buffer buffer₁ (Ok f) → n + 1 + descendants ≡ f.rows
           → (width * n + width ≤ length buffer₁
-          → buffer₂ ≡ sets buffer₁ (width * n) (flat (row tag vr depth v.at (stop - v.at) (m - n - 1) first ∷ [])))
-          → Next tag vr v buffer₂ stop next m
-      onward {stop} {next} {m} {buffer₂} l₁ l₂ u put =
+          → buffer₂ ≡ sets buffer₁ (width * n) (flat (row tag vr depth v.at (f.stop - v.at) descendants first ∷ [])))
+          → Next tag vr v buffer₂ f
+      onward {f} {buffer₂} descendants l₁ l₂ u m put =
           let b = below (inside (n + 1) vr v) u in
           let k = turn at least i.rows i.turns i.high i.rest i.enough in
-          let r : Row = row tag vr depth v.at (stop - v.at) (length b.rows) first in
-          let size : length b.rows ≡ m - n - 1 = omega (arith, b.count) in
+          let r : Row = row tag vr depth v.at (f.stop - v.at) (length b.rows) first in
+          let size : descendants ≡ length b.rows = omega (arith, b.count) in
           record {
             inner = b.rows;
             is = b.is;
@@ -288,7 +283,7 @@ module _ (head : ℕ → ℕ → Head) (inside : ℕ → ℕ → Cursor → Run)
                 record {
                   rows = i.rows ++ (r ∷ b.rows);
                   turns = k.0;
-                  rest = sym (level-on head inside depth first k.0 at least i.rows tag vr stop next v b.rows e
+                  rest = sym (level-on head inside depth first k.0 at least i.rows tag vr f.stop f.next v b.rows e
                       (ap (λ (x : ℕ). inside x vr v) (omega (arith, i.count)) ∙ b.is)) ∙ k.1.0;
                   enough = omega (arith, k.1.1, b.within, w);
                   low = omega (arith, i.low, b.within, w);
@@ -300,27 +295,27 @@ module _ (head : ℕ → ℕ → Head) (inside : ℕ → ℕ → Cursor → Run)
                       let e₀ : buffer ≡ sets buffer₀ (width * first) (flat i.rows) = i.wrote (omega (arith, b.count)) in
                       let e₁ : buffer₁ ≡ sets buffer (width * (n + 1)) (flat b.rows) = b.wrote (omega (arith, i.kept)) in
                       let e₂ : buffer₂
-                      ≡ sets buffer₁ (width * n) (flat (row tag vr depth v.at (stop - v.at) (m - n - 1) first ∷ [])) = put
+                      ≡ sets buffer₁ (width * n) (flat (row tag vr depth v.at (f.stop - v.at) descendants first ∷ [])) = put
                       (omega (arith, i.kept, b.count)) in
-                      let f : width * n ≡ width * first + length (flat i.rows) = omega (arith, length-flat i.rows, i.count) in
+                      let g : width * n ≡ width * first + length (flat i.rows) = omega (arith, length-flat i.rows, i.count) in
                       e₂
-                      ∙ ap (λ (x : ℕ). sets buffer₁ (width * n) (flat (row tag vr depth v.at (stop - v.at) x first ∷ []))) (sym size)
+                      ∙ ap (λ (x : ℕ). sets buffer₁ (width * n) (flat (row tag vr depth v.at (f.stop - v.at) x first ∷ []))) size
                       ∙ ap (λ (x : List ℕ). sets x (width * n) (flat (r ∷ []))) e₁
                       ∙ row-over buffer n r b.rows
                       ∙ ap (λ (x : List ℕ). sets x (width * n) (flat (r ∷ b.rows))) e₀
-                      ∙ ap (λ (x : ℕ). sets (sets buffer₀ (width * first) (flat i.rows)) x (flat (r ∷ b.rows))) f
+                      ∙ ap (λ (x : ℕ). sets (sets buffer₀ (width * first) (flat i.rows)) x (flat (r ∷ b.rows))) g
                       ∙ sym (sets-append (flat i.rows) buffer₀ (width * first) (flat (r ∷ b.rows)))
                       ∙ ap (λ (x : List ℕ). sets buffer₀ (width * first) x) (sym (flat_append i.rows (r ∷ b.rows)));
                 };
             more = refl;
           }
 
-      pub again : {stop next m : ℕ} {buffer₂ : List ℕ} → length buffer₁ ≡ length buffer → length buffer₂ ≡ length buffer₁
-          → Walked (inside (n + 1) vr v) v (n + 1) buffer buffer₁ (walk.Done stop next m)
+      pub again : {f : Walk} {buffer₂ : List ℕ} (descendants : ℕ) → length buffer₁ ≡ length buffer → length buffer₂ ≡ length buffer₁
+          → Walked (inside (n + 1) vr v) v (n + 1) buffer buffer₁ (Ok f) → n + 1 + descendants ≡ f.rows
           → (width * n + width ≤ length buffer₁
-          → buffer₂ ≡ sets buffer₁ (width * n) (flat (row tag vr depth v.at (stop - v.at) (m - n - 1) first ∷ [])))
-          → Here buffer₂ next m (tag + 1)
-      again l₁ l₂ u put = (onward l₁ l₂ u put).here
+          → buffer₂ ≡ sets buffer₁ (width * n) (flat (row tag vr depth v.at (f.stop - v.at) descendants first ∷ [])))
+          → Here buffer₂ f.next f.rows (tag + 1)
+      again descendants l₁ l₂ u m put = (onward descendants l₁ l₂ u m put).here
 
 -- ---- The value of an element
 
@@ -338,7 +333,7 @@ value-items (suc levels) s first vr v n e = rw (eq-eqb vr SQ e, sub-one (suc lev
 
 -- A value without rows.
 pub leaf : (o : Run) (v : Cursor) (first : ℕ) (buffer : List ℕ) → v.at ≤ v.end → o ≡ done v.end v.end []
-    → Walked o v first buffer buffer (walk.Done v.end v.end first)
+    → Walked o v first buffer buffer (Ok (walk v.end v.end first))
 leaf o v first buffer h e =
-    subst (λ (x : Run). Walked x v first buffer buffer (walk.Done v.end v.end first)) (sym e)
-    (record { is = ap (λ (k : ℕ). walk.Done v.end v.end k) (sym (add-zero first)); within = omega arith; wrote = λ _. refl })
+    subst (λ (x : Run). Walked x v first buffer buffer (Ok (walk v.end v.end first))) (sym e)
+    (record { is = ap (λ (k : ℕ). Ok (walk v.end v.end k)) (sym (add-zero first)); within = omega arith; wrote = λ _. refl })

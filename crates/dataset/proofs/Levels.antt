@@ -5,19 +5,21 @@ use Prim.Native.Nat.{ℕ, ◌≤◌}
 use native.Mathlib.Omega.{arith}
 use borrow.Author.Tests.{eqb-false}
 use mathlib.Core.List.{List}
+use Rattle.std.specs.Prelude.{Result, Ok, Err}
+use Rattle.dataset.specs.declared.Fault.{Fault}
 use Rattle.dataset.specs.declared.Cursor.{Cursor}
 use Rattle.dataset.specs.declared.Head.{Head}
 use Rattle.dataset.specs.declared.Head.TheVariants as head
 use Rattle.basics.specs.Vr.{SQ}
 use Rattle.dataset.specs.Header.{when, header_by, delimiter_by, nested_by, defined_by, long_by, typed_at, tagged_at, element_at}
 
-abbrev Leveled : ℕ → Head → Type 0
-Leveled levels (head.Header tag vr v) = vr ≡ SQ → 1 ≤ levels
-Leveled levels (head.End tag vr next) = Unit {0}
-Leveled levels (head.Refused code) = Unit {0}
+abbrev Leveled : ℕ → Result Head Fault → Type 0
+Leveled levels (Ok (head.Header tag vr v)) = vr ≡ SQ → 1 ≤ levels
+Leveled levels (Ok (head.End tag vr next)) = Unit {0}
+Leveled levels (Err fault) = Unit {0}
 
 module _ (levels : ℕ) where
-  by-test : (t : Bool) (a b : Head) → (t ≡ true → Leveled levels a) → (t ≡ false → Leveled levels b) → Leveled levels (when t a b)
+  by-test : (t : Bool) (a b : Result Head Fault) → (t ≡ true → Leveled levels a) → (t ≡ false → Leveled levels b) → Leveled levels (when t a b)
   unfolding when
   by-test true a b p q = p refl
   by-test false a b p q = q refl
@@ -59,6 +61,6 @@ module _ (levels : ℕ) where
   element-leveled s c least =
       by-test _ _ _ (λ _. by-test _ _ _ (λ _. tt) (λ _. tt)) (λ _. by-test _ _ _ (λ _. tt) (λ _. tagged-leveled s c _ least))
 
-  pub sequence-level : (s : List ℕ) (c : Cursor) (least : ℕ) {tag vr : ℕ} {v : Cursor} → element_at s c least levels ≡ head.Header tag vr v
+  pub sequence-level : (s : List ℕ) (c : Cursor) (least : ℕ) {tag vr : ℕ} {v : Cursor} → element_at s c least levels ≡ Ok (head.Header tag vr v)
       → vr ≡ SQ → 1 ≤ levels
-  sequence-level s c least {tag} {vr} {v} e = subst (λ (h : Head). Leveled levels h) e (element-leveled s c least)
+  sequence-level s c least {tag} {vr} {v} e = subst (λ (h : Result Head Fault). Leveled levels h) e (element-leveled s c least)

@@ -11,7 +11,7 @@ use lib.Dec.{eqb, ltb}
 use mathlib.Core.List.{List}
 use lib.ListN.{length}
 use Rattle.basics.specs.Vr.{SQ}
-use Rattle.dataset.specs.Reading.{Row}
+use Rattle.dataset.specs.declared.Row.{Row}
 use Rattle.dataset.specs.Tree.{rows_of, row_at, next_row, Kind, elements, items, Member, kind_inside, depth_inside, Members}
 use Rattle.dataset.specs.Parents.{parent_of, climb, Counts, Meets, Parents}
 use Rattle.dataset.proofs.Tree.{rows-members}

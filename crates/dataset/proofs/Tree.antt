@@ -10,6 +10,8 @@ use lib.Dec.{eqb, ltb}
 use mathlib.Core.List.{List, [], ◌∷◌, ◌++◌, append_assoc, append-nil}
 use lib.ListN.{length, length-append, get_or-append}
 use lib.Seq.{get_or-append-add}
+use Rattle.std.specs.Prelude.{Result, Ok, Err}
+use Rattle.dataset.specs.declared.Fault.{Fault}
 use Rattle.dataset.specs.declared.Cursor.{Cursor}
 use Rattle.dataset.specs.declared.Head.{Head}
 use Rattle.dataset.specs.declared.Head.TheVariants as head
@@ -18,7 +20,8 @@ use Rattle.basics.specs.Bytes.{le32}
 use Rattle.dataset.specs.Header.{when, cursor, moved, header_by, delimiter_by, nested_by, defined_by, long_by, typed_at, tagged_at}
 use Rattle.basics.specs.Tags.{item_tag}
 use Rattle.dataset.specs.Header.{sized_by, member_at, element_at, item_at}
-use Rattle.dataset.specs.Reading.{Row, row, Run, done, refused, on_head, on_run, level, value_run, elements_at, Reading, depths}
+use Rattle.dataset.specs.declared.Row.{Row}
+use Rattle.dataset.specs.Reading.{row, Run, done, refused, on_head, on_run, level, value_run, elements_at, Reading, depths}
 use Rattle.dataset.specs.Internal.{items_at}
 use Rattle.dataset.specs.Reading.{too_large, refused_at, read, whole, reading_of}
 use Rattle.basics.specs.Limits.{largest, most_rows}
@@ -41,13 +44,13 @@ abbrev Named : Kind → ℕ → ℕ → ℕ → Type 0
 Named elements least tag vr = (least ≤ tag) × (form_of vr ≡ 0 → ⊥)
 Named items least tag vr = (tag ≡ item_tag) × (vr ≡ 0)
 
-abbrev Moves : Kind → ℕ → Cursor → Head → Type 0
-Moves kind least c (head.Header tag vr v) = (c.at + 8 ≤ v.at) × ((v.at ≤ v.end) × ((v.end ≤ c.end) × Named kind least tag vr))
-Moves kind least c (head.End tag vr next) = (c.at ≤ next.at) × (next.at ≤ c.end)
-Moves kind least c (head.Refused code) = (1 ≤ code) × (code ≤ 6)
+abbrev Moves : Kind → ℕ → Cursor → Result Head Fault → Type 0
+Moves kind least c (Ok (head.Header tag vr v)) = (c.at + 8 ≤ v.at) × ((v.at ≤ v.end) × ((v.end ≤ c.end) × Named kind least tag vr))
+Moves kind least c (Ok (head.End tag vr next)) = (c.at ≤ next.at) × (next.at ≤ c.end)
+Moves kind least c (Err fault) = Unit {0}
 
 module _ (kind : Kind) (least : ℕ) (c : Cursor) where
-  by-test : (t : Bool) (a b : Head) → (t ≡ true → Moves kind least c a) → (t ≡ false → Moves kind least c b)
+  by-test : (t : Bool) (a b : Result Head Fault) → (t ≡ true → Moves kind least c a) → (t ≡ false → Moves kind least c b)
       → Moves kind least c (when t a b)
   unfolding when
   by-test true a b p q = p refl
@@ -60,7 +63,7 @@ module _ (kind : Kind) (least : ℕ) (c : Cursor) where
       (λ _. by-test _ _ _ (λ _. by-test _ _ _ (λ _. omega arith) (λ _. omega arith)) (λ _. omega arith))
       (λ _. omega arith)
 
-  header-moves : (h : Head) → c.at ≤ c.end → (c.at + 8 ≤ c.end → Moves kind least c h) → Moves kind least c (header_by c h)
+  header-moves : (h : Result Head Fault) → c.at ≤ c.end → (c.at + 8 ≤ c.end → Moves kind least c h) → Moves kind least c (header_by c h)
   unfolding header_by
   header-moves h p q =
       by-test _ _ _ (λ _. by-test _ _ _ (λ _. omega arith) (λ _. omega arith))
@@ -119,7 +122,7 @@ module _ (s : List ℕ) (c : Cursor) (k : c.at + 8 ≤ c.end) where
   member-moves tag least =
       by-test items least c _ _ _ (λ _. sized-moves least _) (λ _. delimiter-moves items least c tag _ _ k)
 
--- ---- A run that is done has added a forest; one that is refused has a code and an offset within the known end
+-- ---- A run that is done has added a forest; one that is refused has a fault and an offset within the known end
 
 record Added (size : ℕ) (kind : Kind) (depth holder from least at end : ℕ) (before : List Row) (stop next : ℕ) (rows : List Row) : Type
     0 where
@@ -134,18 +137,18 @@ record Added (size : ℕ) (kind : Kind) (depth holder from least at end : ℕ) (
 abbrev Adds : ℕ → Kind → ℕ → ℕ → ℕ → ℕ → ℕ → ℕ → List Row → Run → Type 0
 Adds size kind depth holder from least at end before (done stop next rows) = Added size kind depth holder from least at end before stop next
     rows
-Adds size kind depth holder from least at end before (refused code offset) = (1 ≤ code) × ((code ≤ 6) × ((at ≤ offset) × (offset ≤ end)))
+Adds size kind depth holder from least at end before (refused fault offset) = (at ≤ offset) × (offset ≤ end)
 
 -- A run that is done without rows stops where it started.
 abbrev Bare : ℕ → Run → Type 0
 Bare at (done stop next rows) = length rows ≡ 0 → stop ≡ at
-Bare at (refused code offset) = Unit {0}
+Bare at (refused fault offset) = Unit {0}
 
 -- Only a sequence and an item have rows below them; without any they are of length 0. A sequence is read where a level is left.
 abbrev Childless : Kind → ℕ → ℕ → ℕ → Run → Type 0
 Childless elements depth vr at (done stop next below) = ((vr ≡ SQ → ⊥) → length below ≡ 0)
     × (vr ≡ SQ → depth < 8 → length below ≡ 0 → stop ≡ at)
-Childless elements depth vr at (refused code offset) = Unit {0}
+Childless elements depth vr at (refused fault offset) = Unit {0}
 Childless items depth vr at o = Bare at o
 
 abbrev Leveled : Kind → ℕ → ℕ → Type 0
@@ -189,7 +192,7 @@ member-first : (size : ℕ) (kind : Kind) (depth holder from least at next end :
     → at + 8 + 8 * length below ≤ next
     → (o : Run) → Adds size kind depth holder (from + 1 + length below) (r.tag + 1) next end (before ++ (r ∷ below)) o
     → Adds size kind depth holder from least at end before o
-member-first size kind depth holder from least at next end before r below m d f p (refused code offset) a = omega (arith, a)
+member-first size kind depth holder from least at next end before r below m d f p (refused fault offset) a = omega (arith, a)
 member-first size kind depth holder from least at next end before r below m d f p (done stop after rows) a =
     record {
       rest = r ∷ (below ++ a.rest);
@@ -201,10 +204,10 @@ member-first size kind depth holder from least at next end before r below m d f 
       forest = grow m d f a.forest;
     }
 
-module _ (size : ℕ) (kind : Kind) (depth first : ℕ) (header : ℕ → ℕ → Head) (inside : ℕ → ℕ → Cursor → Run) (c : Cursor)
+module _ (size : ℕ) (kind : Kind) (depth first : ℕ) (header : ℕ → ℕ → Result Head Fault) (inside : ℕ → ℕ → Cursor → Run) (c : Cursor)
     (high : c.end ≤ size) (deep : depth ≤ depths)
     (moves : (at least : ℕ) → at ≤ c.end → Moves kind least (moved c at) (header at least))
-    (leveled : (at least tag vr : ℕ) (v : Cursor) → header at least ≡ head.Header tag vr v → Leveled kind depth vr)
+    (leveled : (at least tag vr : ℕ) (v : Cursor) → header at least ≡ Ok (head.Header tag vr v) → Leveled kind depth vr)
     (value : (n vr : ℕ) (v : Cursor) → v.at ≤ v.end → v.end ≤ size → Inside size kind depth n vr v (inside n vr v)) where
   level-adds : (turns from at least : ℕ) (before : List Row) → from ≡ first + length before → at ≤ c.end → c.end < at + turns
       → Adds size kind depth first from least at c.end before (level header inside depth first turns at least before)
@@ -226,7 +229,7 @@ module _ (size : ℕ) (kind : Kind) (depth first : ℕ) (header : ℕ → ℕ �
           → Adds size kind depth first from least at c.end before (on_run o (λ stop next below.
           level header inside depth first turns next (tag + 1)
           (before ++ (row tag vr depth v.at (stop - v.at) (length below) first ∷ below))))
-      on-run k tag vr v m n w u (refused code offset) g = omega (arith, g.0)
+      on-run k tag vr v m n w u (refused fault offset) g = omega (arith, g.0)
       on-run k tag vr v m n w u (done stop next below) g =
           let r : Row = row tag vr depth v.at (stop - v.at) (length below) first in
           let e : below ≡ g.0.rest = g.0.is in
@@ -240,15 +243,15 @@ module _ (size : ℕ) (kind : Kind) (depth first : ℕ) (header : ℕ → ℕ �
           refl f (omega (arith, l, g.0.few, g.0.close)) (level header inside depth first turns next (tag + 1) (before ++ (r ∷ below)))
           (k next tag r below (omega (arith, g.0.high)) (omega (arith, g.0.start, g.0.close)))
 
-      on-head : Next → (h : Head) → header at least ≡ h → Moves kind least (moved c at) h
+      on-head : Next → (h : Result Head Fault) → header at least ≡ h → Moves kind least (moved c at) h
           → Adds size kind depth first from least at c.end before (on_head h
-          (λ code. refused code at)
+          (λ fault. refused fault at)
           (λ next. done at next before)
           (λ tag vr v. on_run (inside (first + length before + 1) vr v) (λ stop next below.
           level header inside depth first turns next (tag + 1)
           (before ++ (row tag vr depth v.at (stop - v.at) (length below) first ∷ below)))))
-      on-head k (head.Refused code) e m = (m.0, (m.1, (omega arith, h)))
-      on-head k (head.End tag vr next) e m =
+      on-head k (Err fault) e m = (omega arith, h)
+      on-head k (Ok (head.End tag vr next)) e m =
           record {
             rest = [];
             is = sym (append-nil before);
@@ -258,7 +261,7 @@ module _ (size : ℕ) (kind : Kind) (depth first : ℕ) (header : ℕ → ℕ �
             few = omega (arith, m.0);
             forest = empty;
           }
-      on-head k (head.Header tag vr v) e m =
+      on-head k (Ok (head.Header tag vr v)) e m =
           on-run k tag vr v m.0 m.1.1.0 m.1.1.1 (leveled at least tag vr v e) (inside (first + length before + 1) vr v)
           (subst (λ (n : ℕ). Inside size kind depth n vr v (inside (first + length before + 1) vr v)) (omega arith)
           (value (first + length before + 1) vr v m.1.0 (omega (arith, m.1.1.0))))
@@ -268,9 +271,9 @@ module _ (size : ℕ) (kind : Kind) (depth first : ℕ) (header : ℕ → ℕ �
 -- A run keeps the rows that it was given.
 abbrev Long : ℕ → Run → Type 0
 Long n (done stop next rows) = n ≤ length rows
-Long n (refused code offset) = Unit {0}
+Long n (refused fault offset) = Unit {0}
 
-level-long : (header : ℕ → ℕ → Head) (inside : ℕ → ℕ → Cursor → Run) (depth first turns at least : ℕ) (rows : List Row) (n : ℕ)
+level-long : (header : ℕ → ℕ → Result Head Fault) (inside : ℕ → ℕ → Cursor → Run) (depth first turns at least : ℕ) (rows : List Row) (n : ℕ)
     → n ≤ length rows
     → Long n (level header inside depth first turns at least rows)
 unfolding level
@@ -284,24 +287,24 @@ level-long header inside depth first (suc turns) at least rows n h =
     on-run : Next → (tag vr : ℕ) (v : Cursor) (o : Run) → Long n (on_run o (λ stop next below.
         level header inside depth first turns next (tag + 1)
         (rows ++ (row tag vr depth v.at (stop - v.at) (length below) first ∷ below))))
-    on-run k tag vr v (refused code offset) = tt
+    on-run k tag vr v (refused fault offset) = tt
     on-run k tag vr v (done stop next below) =
         k next tag (rows ++ (row tag vr depth v.at (stop - v.at) (length below) first ∷ below))
         (omega (arith, h, length-append rows (row tag vr depth v.at (stop - v.at) (length below) first ∷ below)))
 
-    on-head : Next → (x : Head) → Long n (on_head x (λ code. refused code at) (λ next. done at next rows)
+    on-head : Next → (x : Result Head Fault) → Long n (on_head x (λ fault. refused fault at) (λ next. done at next rows)
         (λ tag vr v. on_run (inside (first + length rows + 1) vr v) (λ stop next below.
         level header inside depth first turns next (tag + 1)
         (rows ++ (row tag vr depth v.at (stop - v.at) (length below) first ∷ below)))))
-    on-head k (head.Refused code) = tt
-    on-head k (head.End tag vr next) = h
-    on-head k (head.Header tag vr v) = on-run k tag vr v (inside (first + length rows + 1) vr v)
+    on-head k (Err fault) = tt
+    on-head k (Ok (head.End tag vr next)) = h
+    on-head k (Ok (head.Header tag vr v)) = on-run k tag vr v (inside (first + length rows + 1) vr v)
 
 long-bare : (at : ℕ) (o : Run) → Long 1 o → Bare at o
-long-bare at (refused code offset) h = tt
+long-bare at (refused fault offset) h = tt
 long-bare at (done stop next rows) h = λ e. absurd (omega (arith, h, e))
 
-level-bare : (header : ℕ → ℕ → Head) (inside : ℕ → ℕ → Cursor → Run) (depth first turns at least : ℕ)
+level-bare : (header : ℕ → ℕ → Result Head Fault) (inside : ℕ → ℕ → Cursor → Run) (depth first turns at least : ℕ)
     → Bare at (level header inside depth first turns at least [])
 unfolding level
 level-bare header inside depth first zero at least = tt
@@ -309,19 +312,19 @@ level-bare header inside depth first (suc turns) at least = on-head (header at l
   where
     on-run : (tag vr : ℕ) (v : Cursor) (o : Run) → Bare at (on_run o (λ stop next below.
         level header inside depth first turns next (tag + 1) (row tag vr depth v.at (stop - v.at) (length below) first ∷ below)))
-    on-run tag vr v (refused code offset) = tt
+    on-run tag vr v (refused fault offset) = tt
     on-run tag vr v (done stop next below) =
         long-bare at
         (level header inside depth first turns next (tag + 1) (row tag vr depth v.at (stop - v.at) (length below) first ∷ below))
         (level-long header inside depth first turns next (tag + 1) (row tag vr depth v.at (stop - v.at) (length below) first ∷ below) 1
         (omega arith))
 
-    on-head : (x : Head) → Bare at
-        (on_head x (λ code. refused code at) (λ next. done at next []) (λ tag vr v. on_run (inside (first + 0 + 1) vr v) (λ stop next below.
+    on-head : (x : Result Head Fault) → Bare at
+        (on_head x (λ fault. refused fault at) (λ next. done at next []) (λ tag vr v. on_run (inside (first + 0 + 1) vr v) (λ stop next below.
         level header inside depth first turns next (tag + 1) (row tag vr depth v.at (stop - v.at) (length below) first ∷ below))))
-    on-head (head.Refused code) = tt
-    on-head (head.End tag vr next) = λ _. refl
-    on-head (head.Header tag vr v) = on-run tag vr v (inside (first + 0 + 1) vr v)
+    on-head (Err fault) = tt
+    on-head (Ok (head.End tag vr next)) = λ _. refl
+    on-head (Ok (head.Header tag vr v)) = on-run tag vr v (inside (first + 0 + 1) vr v)
 
 -- ---- The whole
 
@@ -342,7 +345,7 @@ leaf-inside size depth first vr v p n = (
 items-inside : (size depth first vr : ℕ) (v : Cursor) (o : Run) → vr ≡ SQ → Adds size items (depth + 1) first first 0 v.at v.end [] o
     → Bare v.at o
     → Inside size elements depth first vr v o
-items-inside size depth first vr v (refused code offset) e a b = (a, tt)
+items-inside size depth first vr v (refused fault offset) e a b = (a, tt)
 items-inside size depth first vr v (done stop next below) e a b = (a, (λ n. absurd (n e), λ _ _. b))
 
 elements-adds : (levels : ℕ) (s : List ℕ) → levels ≤ depths
@@ -386,7 +389,7 @@ pub record Rows (s : List ℕ) (rows : List Row) : Type 0 where
 
 abbrev pub Reads : List ℕ → Reading → Type 0
 Reads s too_large = Unit {0}
-Reads s (refused_at code offset) = (1 ≤ code) × ((code ≤ 6) × (offset ≤ largest))
+Reads s (refused_at fault offset) = offset ≤ largest
 Reads s (read rows) = Rows s rows
 
 pub reading-reads : (s : List ℕ) → Reads s (reading_of s)
@@ -397,7 +400,7 @@ reading-reads s = by_size (ltb largest (length s)) refl
     all = cursor 0 (length s) false
 
     by-run : length s ≤ largest → (o : Run) → Adds (length s) elements 0 0 0 0 0 (length s) [] o → Reads s (whole o)
-    by-run h (refused code offset) a = omega (arith, a)
+    by-run h (refused fault offset) a = omega (arith, a)
     by-run h (done stop next rows) a =
         let e : rows ≡ a.rest = a.is in
         let f : Forest (length s) elements 0 0 0 0 rows = subst (λ (l : List Row). Forest (length s) elements 0 0 0 0 l) (sym e)
@@ -420,7 +423,7 @@ rows-read s = go (reading_of s) (reading-reads s)
 
     go : (o : Reading) → Reads s o → Rows s (rows_in o)
     go too_large r = nothing
-    go (refused_at code offset) r = nothing
+    go (refused_at fault offset) r = nothing
     go (read rows) r = r
 
 -- ---- The members, by their row numbers

@@ -1,3 +1,4 @@
+pub mod Fault
 pub mod Header
 pub mod Reading
 pub mod Answer

@@ -8,7 +8,7 @@
 -- The number counts rows from 1. The definitions count them from 0, so the row of number suc i is row i.
 use Rattle.std.specs.Prelude.{◌≡◌, ℕ, zero, suc, ◌+◌, ◌≤◌, ◌<◌, List, length}
 use Rattle.basics.specs.Vr.{SQ}
-use Rattle.dataset.specs.Reading.{Row}
+use Rattle.dataset.specs.declared.Row.{Row}
 use Rattle.dataset.specs.Tree.{rows_of, row_at, next_row}
 
 -- The seventh number of the row with a given number; the root stays the root.

@@ -1,53 +1,48 @@
 -- The reading of a data set (document 01, "Reading"): a row for each element and item in byte order, or the first
--- refusal's code and offset (the paper's place).
+-- refusal, with its offset (the paper's place).
 use Rattle.std.specs.Prelude.{ℕ, zero, suc, ◌+◌, ◌-◌, List, [], ◌∷◌, ◌++◌, false, cond, length, eqb, ltb}
+use Rattle.std.specs.Prelude.{Result, Ok, Err}
 use Rattle.dataset.specs.declared.Cursor.{Cursor}
+use Rattle.dataset.specs.declared.Fault.{Fault}
+use Rattle.dataset.specs.declared.Fault.TheVariants.{CutShort}
 use Rattle.dataset.specs.declared.Head.{Head}
-use Rattle.dataset.specs.declared.Head.TheVariants.{Header, End, Refused}
+use Rattle.dataset.specs.declared.Head.TheVariants.{Header, End}
+use Rattle.dataset.specs.declared.Row.{Row}
 use Rattle.basics.specs.Limits.{largest}
 use Rattle.basics.specs.Vr.{SQ}
 use Rattle.dataset.specs.Header.{cursor, moved, element_at, item_at}
 
 -- The seven numbers of an element or item; `descendants` is the paper's number of rows below it, and `parent` the row number, counted
 -- from 1, of the item or sequence that directly holds it, 0 at the root.
-pub record Row : Type 0 where
-  pub tag : ℕ
-  pub vr : ℕ
-  pub depth : ℕ
-  pub offset : ℕ
-  pub size : ℕ
-  pub descendants : ℕ
-  pub parent : ℕ
-
 abbrev pub row : ℕ → ℕ → ℕ → ℕ → ℕ → ℕ → ℕ → Row
 row tag vr depth offset size descendants parent =
     record { tag = tag; vr = vr; depth = depth; offset = offset; size = size; descendants = descendants; parent = parent }
 
--- The result of a run of headers: where its value stops (before a delimiter), the offset reached (after it), and its rows; or a refusal's
--- code and offset.
+-- The result of a run of headers: where its value stops (before a delimiter), the offset reached (after it), and its rows; or a refusal
+-- and its offset.
 pub data Run : Type 0 where
   done : ℕ → ℕ → List Row → Run
-  refused : ℕ → ℕ → Run
+  refused : Fault → ℕ → Run
 
-abbrev pub on_head : Head → (ℕ → Run) → (ℕ → Run) → (ℕ → ℕ → Cursor → Run) → Run
-on_head (Refused code) refuse stop go = refuse code
-on_head (End tag vr next) refuse stop go = stop next.at
-on_head (Header tag vr value) refuse stop go = go tag vr value
+abbrev pub on_head : Result Head Fault → (Fault → Run) → (ℕ → Run) → (ℕ → ℕ → Cursor → Run) → Run
+on_head (Err fault) refuse stop go = refuse fault
+on_head (Ok (End tag vr next)) refuse stop go = stop next.at
+on_head (Ok (Header tag vr value)) refuse stop go = go tag vr value
 
 abbrev pub on_run : Run → (ℕ → ℕ → List Row → Run) → Run
-on_run (refused code offset) go = refused code offset
+on_run (refused fault offset) go = refused fault offset
 on_run (done stop next rows) go = go stop next rows
 
 -- One level, header by header: `head` says what is at an offset, `inside` the result for a value whose rows are numbered from a given
 -- number on. A row's length is where its value stops minus where it starts, and its descendants are the rows of its value. Rows are
 -- numbered from 0 in byte order, and `first` is the number of the level's first row. That row comes right after the row that holds the
 -- level, so `first` is also the holder's number counted from 1, and 0 at the root. Each turn moves on by a header, so a level has fewer
--- turns than bytes; running out of turns would be code 0, which no reading gives.
-unfoldable pub level : (ℕ → ℕ → Head) → (ℕ → ℕ → Cursor → Run) → ℕ → ℕ → ℕ → ℕ → ℕ → List Row → Run
-level head inside depth first zero at least rows = refused 0 at
+-- turns than bytes, and none runs out of them; what would come then, bytes that are cut short, no reading gives.
+unfoldable pub level : (ℕ → ℕ → Result Head Fault) → (ℕ → ℕ → Cursor → Run) → ℕ → ℕ → ℕ → ℕ → ℕ → List Row → Run
+level head inside depth first zero at least rows = refused CutShort at
 level head inside depth first (suc turns) at least rows =
     on_head (head at least)
-    (λ code. refused code at)
+    (λ fault. refused fault at)
     (λ next. done at next rows)
     (λ tag vr value. on_run (inside (first + length rows + 1) vr value) (λ stop next below.
     level head inside depth first turns next (tag + 1)
@@ -83,11 +78,11 @@ elements_at levels s first c = elements_by (value_run levels s) levels s first c
 -- Too large, refused, or read.
 pub data Reading : Type 0 where
   too_large : Reading
-  refused_at : ℕ → ℕ → Reading
+  refused_at : Fault → ℕ → Reading
   read : List Row → Reading
 
 abbrev pub whole : Run → Reading
-whole (refused code offset) = refused_at code offset
+whole (refused fault offset) = refused_at fault offset
 whole (done stop next rows) = read rows
 
 unfoldable pub reading_of : List ℕ → Reading

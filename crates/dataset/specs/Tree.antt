@@ -3,12 +3,13 @@
 use Rattle.std.specs.Prelude.{◌≡◌, ℕ, ◌+◌, ◌*◌, ◌≤◌, List, [], get_or}
 use Rattle.basics.specs.Vr.{form_of, SQ}
 use Rattle.basics.specs.Tags.{item_tag}
-use Rattle.dataset.specs.Reading.{Row, row, Reading, too_large, refused_at, read, reading_of, depths}
+use Rattle.dataset.specs.declared.Row.{Row}
+use Rattle.dataset.specs.Reading.{row, Reading, too_large, refused_at, read, reading_of, depths}
 
 -- The rows of a data set that reads well; otherwise none.
 abbrev pub rows_in : Reading → List Row
 rows_in too_large = []
-rows_in (refused_at code offset) = []
+rows_in (refused_at fault offset) = []
 rows_in (read rows) = rows
 
 unfoldable pub rows_of : List ℕ → List Row

@@ -29,18 +29,6 @@ off-below t x y h = go (leb y (x + t)) refl
     go true e = le-ltb (x + t) y (leb-true y (x + t) e) ∙ sym (ap not (within-is t x y true h e))
     go false e = lt-ltb (x + t) y (leb-false y (x + t) e) ∙ sym (ap not (within-is t x y false h e))
 
-pub seen_first : (i : ℕ) (d : Differing) → d.count ≡ 0 → record { first = i; count = d.count + 1 } ≡ seen true i d
-unfolding seen
-seen_first i d e = rw (eq-eqb d.count 0 e)
-
-pub seen_next : (i : ℕ) (d : Differing) → (d.count ≡ 0 → ⊥) → record { first = d.first; count = d.count + 1 } ≡ seen true i d
-unfolding seen
-seen_next i d e = rw (ne_eqb d.count 0 e)
-
-pub seen_none : (i : ℕ) (d : Differing) → d ≡ seen false i d
-unfolding seen
-seen_none i d = refl
-
 seen_most : (off : Bool) (i : ℕ) (d : Differing) → (seen off i d).count ≤ d.count + 1
 unfolding seen
 seen_most true i d = omega arith

@@ -5,8 +5,6 @@ ghost use Rattle.std.specs.Prelude.{◌≡◌, not, ◌+◌, ◌≤◌, ◌<◌,
 ghost use Rattle.differences.specs.Differences.{within};
 ghost use Rattle.differences.specs.Internal.{seen, along, none_off, LineOf};
 
-use basics::wide;
-
 // How many cells were off so far, and the first of them; 0 where none was.
 #[derive(Clone, Copy)]
 pub struct Differing {
@@ -26,34 +24,21 @@ fn is_off(ours: usize, theirs: usize, tolerance: usize) -> bool
     requires { (ours < 256) × ((theirs < 256) × (tolerance ≤ 255)) }
     ensures { result ≡ not (within tolerance ours theirs) }
 {
-    if theirs + tolerance < ours {
-        true
-    } else {
-        ours + tolerance < theirs
-    }
+    theirs + tolerance < ours || ours + tolerance < theirs
 }
 
 // One more cell, at a place.
+#[tactic(auto, unfolding(crate::specs::Internal::seen))]
 fn look(off: bool, place: usize, sofar: Differing) -> Differing
     requires { (sofar.count ≤ place) × (place < 18446744073709551615) }
     ensures { result ≡ seen off place sofar }
 {
-    let first = sofar.first;
-    let count = sofar.count;
-    if off {
-        if count == 0 {
-            Differing {
-                first: place,
-                count: count + 1,
-            }
-        } else {
-            Differing {
-                first,
-                count: count + 1,
-            }
-        }
-    } else {
-        sofar
+    if !off {
+        return sofar;
+    }
+    Differing {
+        first: if sofar.count == 0 { place } else { sofar.first },
+        count: sofar.count + 1,
     }
 }
 
@@ -73,9 +58,8 @@ pub fn compare_line(
     let mut found = sofar;
     for k in 0..line.len() {
         let place = at + k;
-        let off = is_off(wide(line[k]), wide(cells[place]), tolerance);
-        let next = look(off, place, found);
-        found = next;
+        let off = is_off(usize::from(line[k]), usize::from(cells[place]), tolerance);
+        found = look(off, place, found);
     }
     found
 }

@@ -1,4 +1,5 @@
 -- Which answer an accepted object gets: codes 10 and 11 where their tests say so, and else the picture.
+use Rattle.std.specs.Prelude.{Some, None, Ok, Err}
 use mathlib.Core.Path.{◌≡◌, refl}
 use mathlib.Core.Bool.{false, ◌&&◌, and-false}
 use mathlib.Core.List.{List}
@@ -8,10 +9,9 @@ use native.Mathlib.Omega.{arith}
 use lib.ListN.{length}
 use lib.Dec.{leb}
 use borrow.Author.Tests.{le-leb, lt-leb}
-use Rattle.value.specs.declared.Num.TheVariants.{Is, None}
 use Rattle.node.specs.Nodes.{Node}
 use Rattle.element.specs.Frames.{frames_of}
-use Rattle.display.specs.declared.ShowAnswer.TheVariants as shown
+use Rattle.display.specs.declared.ShowError.TheVariants as error
 use Rattle.display.specs.Show.{image_size, picture_of, accepted_answer}
 
 -- A number that is no frame does not pass the test of code 10.
@@ -26,25 +26,25 @@ pub low-frame : (f n : ℕ) → f < 1 → leb 1 f && leb f n ≡ false
 low-frame f n h = rw (lt-leb 1 f h)
 
 module _ (ns : List Node) (f : ℕ) (image : List ℕ) (count : ℕ) where
-  pub no_frames : frames_of ns ≡ None → shown.NoFrame ≡ accepted_answer ns f image count
+  pub no_frames : frames_of ns ≡ None → Err error.NoFrame ≡ accepted_answer ns f image count
   unfolding accepted_answer
   no_frames e = rw (e, none-frame f)
 
-  module _ (n : ℕ) (e : frames_of ns ≡ Is n) where
-    pub below-frames : f < 1 → shown.NoFrame ≡ accepted_answer ns f image count
+  module _ (n : ℕ) (e : frames_of ns ≡ Some n) where
+    pub below-frames : f < 1 → Err error.NoFrame ≡ accepted_answer ns f image count
     unfolding accepted_answer
     below-frames h = rw (e, low-frame f n h)
 
-    pub above-frames : n < f → shown.NoFrame ≡ accepted_answer ns f image count
+    pub above-frames : n < f → Err error.NoFrame ≡ accepted_answer ns f image count
     unfolding accepted_answer
     above-frames h = rw (e, high-frame f n h)
 
     module _ (low : 1 ≤ f) (high : f ≤ n) where
-      pub no_room : length image < image_size ns → shown.NoImageRoom ≡ accepted_answer ns f image count
+      pub no_room : length image < image_size ns → Err error.NoImageRoom ≡ accepted_answer ns f image count
       unfolding accepted_answer
       no_room h = rw (e, le-leb 1 f low, le-leb f n high, lt-leb (image_size ns) (length image) h)
 
-      pub is-drawn : image_size ns ≤ length image → shown.Drawn count (picture_of ns f).masked ≡ accepted_answer ns f image count
+      pub is-drawn : image_size ns ≤ length image → Ok (record { rows = count; masked = (picture_of ns f).masked }) ≡ accepted_answer ns f image count
       unfolding accepted_answer
       is-drawn h = rw (e, le-leb 1 f low, le-leb f n high, le-leb (image_size ns) (length image) h)
 

@@ -1,17 +1,15 @@
 -- Quarters change nothing for what was accepted before: it is accepted still, and its pictures are the same, cell for cell.
 -- Moreover, wherever the steps of whole pixels gave a picture, of any data set, the steps of quarters give the same.
+use Rattle.std.specs.Prelude.{Option, Some, None}
 use mathlib.Core.Path.{◌≡◌, refl, sym, ap, ◌∙◌, subst}
 use mathlib.Core.Bool.{Bool, true, false, cond, ◌&&◌}
 use mathlib.Core.List.{List, [], ◌∷◌}
-use mathlib.Core.Option.{Option, none, some}
 use Prim.Native.Nat.{ℕ, ◌≤◌, ◌<◌}
 use package.native.Mathlib.Omega.{arith}
 use lib.ListN.{length}
 use lib.Dec.{eqb, leb}
 use borrow.Author.Tests.{eqb-true, eq-eqb, lt-ltb}
 use Rattle.basics.specs.Vr.{SQ, FL}
-use Rattle.value.specs.declared.Num.{Num}
-use Rattle.value.specs.declared.Num.TheVariants.{Is, None}
 use Rattle.value.specs.Text.{ascii}
 use Rattle.value.specs.Number.{is_number, number_or0}
 use Rattle.shift.specs.declared.Shift.TheVariants as shift
@@ -40,8 +38,6 @@ use Rattle.pixel.specs.Whole.{source_of}
 use Rattle.pixel.proofs.Blend.{source-below, are-inside}
 use Rattle.pixel.proofs.Quarters.{agree}
 use Rattle.window.specs.declared.Window.{Window}
-use Rattle.steps.specs.declared.Applying.{Applying}
-use Rattle.steps.specs.declared.Applying.TheVariants.{Item, Nothing}
 use Rattle.steps.specs.Given.{need, check, then}
 use Rattle.steps.specs.Steps.{Mask, native, masked, geometry_of, pixels_of, applying_to, average_frames, tid_frame, item_shift_at}
 use Rattle.steps.specs.Steps.{shift_for, moves_for, on_tid, mask_by, mask_on, mask_for, window_for, inverse_of, masked_cell, picture_by}
@@ -125,7 +121,7 @@ mask_in_quarters native = native
 mask_in_quarters (masked ks m) = masked ks (moves_in_quarters m)
 
 module _ (ns : List Node) (f j : ℕ) where
-  moves-now : (m : Moves) → moves_before ns f j ≡ some m → moves_for ns f j ≡ some (moves_in_quarters m)
+  moves-now : (m : Moves) → moves_before ns f j ≡ Some m → moves_for ns f j ≡ Some (moves_in_quarters m)
   unfolding moves_before moves_for
   moves-now m e =
       let a = then_some (shift_for ns f j) _ e in
@@ -134,27 +130,27 @@ module _ (ns : List Node) (f j : ℕ) where
       let d : whole_moves_of a.0 ≡ m = cc b.1 in
       rw (a.1.0, whole-moves a.0 c.0 c.1, whole_numbers (whole_moves_of a.0) c.0 c.1, d)
 
-  masked-now : (ks : List ℕ) (m : Mask) → then (moves_before ns f j) (λ x. some (masked ks x)) ≡ some m
-      → then (moves_for ns f j) (λ x. some (masked ks x)) ≡ some (mask_in_quarters m)
+  masked-now : (ks : List ℕ) (m : Mask) → then (moves_before ns f j) (λ x. Some (masked ks x)) ≡ Some m
+      → then (moves_for ns f j) (λ x. Some (masked ks x)) ≡ Some (mask_in_quarters m)
   masked-now ks m e =
       let a = then_some (moves_before ns f j) _ e in
       let d : masked ks a.0 ≡ m = cc a.1.1 in
-      rw (moves-now a.0 a.1.0) (ap some (ap mask_in_quarters d))
+      rw (moves-now a.0 a.1.0) (ap Some (ap mask_in_quarters d))
 
-  mask-now : (m : Mask) → mask_by_before ns f j ≡ some m → mask_by ns f j ≡ some (mask_in_quarters m)
+  mask-now : (m : Mask) → mask_by_before ns f j ≡ Some m → mask_by ns f j ≡ Some (mask_in_quarters m)
   unfolding mask_by_before mask_by
   mask-now m = go (operation_is ns (ascii "NONE") j) (operation_is ns (ascii "AVG_SUB") j) (operation_is ns (ascii "TID") j)
     where
-      tid : (o : Num) → on_tid_before ns f j o ≡ some m → on_tid ns f j o ≡ some (mask_in_quarters m)
-      tid None e = let d : native ≡ m = cc in ap some (ap mask_in_quarters d)
-      tid (Is k) e = masked-now (k ∷ []) m e
+      tid : (o : Option ℕ) → on_tid_before ns f j o ≡ Some m → on_tid ns f j o ≡ Some (mask_in_quarters m)
+      tid None e = let d : native ≡ m = cc in ap Some (ap mask_in_quarters d)
+      tid (Some k) e = masked-now (k ∷ []) m e
 
       go : (a b c : Bool)
-          → cond a (some native) (cond b (then (average_frames ns j) (λ ks. then (moves_before ns f j) (λ x. some (masked ks x))))
-          (cond c (then (tid_frame ns f j) (on_tid_before ns f j)) none)) ≡ some m
-          → cond a (some native) (cond b (then (average_frames ns j) (λ ks. then (moves_for ns f j) (λ x. some (masked ks x))))
-          (cond c (then (tid_frame ns f j) (on_tid ns f j)) none)) ≡ some (mask_in_quarters m)
-      go true b c e = let d : native ≡ m = cc in ap some (ap mask_in_quarters d)
+          → cond a (Some native) (cond b (then (average_frames ns j) (λ ks. then (moves_before ns f j) (λ x. Some (masked ks x))))
+          (cond c (then (tid_frame ns f j) (on_tid_before ns f j)) None)) ≡ Some m
+          → cond a (Some native) (cond b (then (average_frames ns j) (λ ks. then (moves_for ns f j) (λ x. Some (masked ks x))))
+          (cond c (then (tid_frame ns f j) (on_tid ns f j)) None)) ≡ Some (mask_in_quarters m)
+      go true b c e = let d : native ≡ m = cc in ap Some (ap mask_in_quarters d)
       go false true c e =
           let a = then_some (average_frames ns j) _ e in
           rw a.1.0 (masked-now a.0 m a.1.1)
@@ -163,15 +159,15 @@ module _ (ns : List Node) (f j : ℕ) where
           rw a.1.0 (tid a.0 a.1.1)
       go false false false e = absurd (never e)
 
-mask-for-now : (ns : List Node) (f : ℕ) (m : Mask) → mask_for_before ns f ≡ some m → mask_for ns f ≡ some (mask_in_quarters m)
+mask-for-now : (ns : List Node) (f : ℕ) (m : Mask) → mask_for_before ns f ≡ Some m → mask_for ns f ≡ Some (mask_in_quarters m)
 unfolding mask_for_before mask_for
 mask-for-now ns f m e =
     let a = then_some (applying_to ns f) _ e in
     rw a.1.0 (applied a.0 a.1.1)
   where
-    applied : (x : Applying) → mask_on_before ns f x ≡ some m → mask_on ns f x ≡ some (mask_in_quarters m)
-    applied Nothing e = let d : native ≡ m = cc in ap some (ap mask_in_quarters d)
-    applied (Item j) e = mask-now ns f j m e
+    applied : (x : Option ℕ) → mask_on_before ns f x ≡ Some m → mask_on ns f x ≡ Some (mask_in_quarters m)
+    applied None e = let d : native ≡ m = cc in ap Some (ap mask_in_quarters d)
+    applied (Some j) e = mask-now ns f j m e
 
 -- Cell for cell.
 cell_same : (g : Geometry) (v : List ℕ) (f : ℕ) (ks : List ℕ) (m : Moves) (w : Window) (inverse : Bool) (i : ℕ) → i < samples_of g
@@ -192,13 +188,13 @@ picture-same g v f w inverse (masked ks m) = rw (collect-same (masked_cell_befor
 
 -- The picture, once each step gave its part.
 module _ (ns : List Node) (f : ℕ) (g : Geometry) (v : List ℕ) (w : Window) (inverse : Bool)
-    (is_g : geometry_of ns ≡ some g) (is_v : pixels_of ns ≡ some v) (frame : is_frame g v f ≡ true) (is_w : window_for ns f g.stored ≡ some w)
-    (is_i : inverse_of ns ≡ some inverse) where
-  to-before : (m : Mask) → mask_for_before ns f ≡ some m → steps_before ns f ≡ picture_before g v f w inverse m
+    (is_g : geometry_of ns ≡ Some g) (is_v : pixels_of ns ≡ Some v) (frame : is_frame g v f ≡ true) (is_w : window_for ns f g.stored ≡ Some w)
+    (is_i : inverse_of ns ≡ Some inverse) where
+  to-before : (m : Mask) → mask_for_before ns f ≡ Some m → steps_before ns f ≡ picture_before g v f w inverse m
   unfolding steps_before
   to-before m e = rw (is_g, is_v, frame, e, is_w, is_i)
 
-  same-steps : (m : Mask) → mask_for_before ns f ≡ some m → steps_before ns f ≡ steps_of ns f
+  same-steps : (m : Mask) → mask_for_before ns f ≡ Some m → steps_before ns f ≡ steps_of ns f
   same-steps m e = to-before m e ∙ picture-same g v f w inverse m ∙
       sym (to-picture ns f g v w inverse is_g is_v frame is_w is_i (mask_in_quarters m) (mask-for-now ns f m e))
 
@@ -217,10 +213,10 @@ same-pictures ns f p e =
 -- ---- Of an accepted object the steps of whole pixels lacked nothing
 
 module _ (ns : List Node) where
-  item-whole : (o : Num) → if_present o (was_shift_at ns) ≡ true → GivesShift is_whole_shift_of (item_shift_at ns o)
+  item-whole : (o : Option ℕ) → if_present o (was_shift_at ns) ≡ true → GivesShift is_whole_shift_of (item_shift_at ns o)
   unfolding was_shift_at is_whole_shift_of whole_moves_of
   item-whole None e = (shift.None, (refl, refl))
-  item-whole (Is k) e =
+  item-whole (Some k) e =
       let a = and_both (eqb (node_at ns k).vr FL) _ e in (
         item_shift (value_at ns k),
         (
@@ -229,10 +225,10 @@ module _ (ns : List Node) where
         ),
       )
 
-  frame-whole : (o : Num) → holds o (λ x. is_whole_shift (value_at ns x)) ≡ true
-      → GivesShift is_whole_shift_of (need o (λ x. check (eqb (length (value_at ns x)) 8) (some (frame_shift (value_at ns x)))))
+  frame-whole : (o : Option ℕ) → holds o (λ x. is_whole_shift (value_at ns x)) ≡ true
+      → GivesShift is_whole_shift_of (need o (λ x. check (eqb (length (value_at ns x)) 8) (Some (frame_shift (value_at ns x)))))
   frame-whole None e = absurd (false-is-true e)
-  frame-whole (Is x) e = (
+  frame-whole (Some x) e = (
     frame_shift (value_at ns x),
     (checked _ _ (eq-eqb _ _ (shift-length (value_at ns x) (whole-shift (value_at ns x) e))), whole-frame (value_at ns x) e),
   )
@@ -249,33 +245,33 @@ module _ (ns : List Node) where
       (λ g k h a. frame-whole (find_vr ns Tags.MaskSubPixelShift FL (inside ns k))
       (and_both (has_id ns k) _ (every-at (was_shift_item ns) a (was-items g h))).1) f r e m
 
-  moves_before_lem : (f j : ℕ) → GivesShift is_whole_shift_of (shift_for ns f j) → (m : Moves) × (moves_before ns f j ≡ some m)
+  moves_before_lem : (f j : ℕ) → GivesShift is_whole_shift_of (shift_for ns f j) → (m : Moves) × (moves_before ns f j ≡ Some m)
   unfolding moves_before
   moves_before_lem f j (s, (q, e)) = (whole_moves_of s, rw q (checked _ _ (whole-both s e)))
 
   -- The mask of an item whose steps lack nothing now lacked nothing then.
-  mask-before : (f j : ℕ) (x : Moves) → moves_before ns f j ≡ some x → (m : Mask) → mask_by ns f j ≡ some m
-      → (k : Mask) × (mask_by_before ns f j ≡ some k)
+  mask-before : (f j : ℕ) (x : Moves) → moves_before ns f j ≡ Some x → (m : Mask) → mask_by ns f j ≡ Some m
+      → (k : Mask) × (mask_by_before ns f j ≡ Some k)
   unfolding mask_by_before mask_by
   mask-before f j x moved m = go (operation_is ns (ascii "NONE") j) (operation_is ns (ascii "AVG_SUB") j) (operation_is ns (ascii "TID") j)
     where
-      tid : (o : Num) → (k : Mask) × (on_tid_before ns f j o ≡ some k)
+      tid : (o : Option ℕ) → (k : Mask) × (on_tid_before ns f j o ≡ Some k)
       tid None = (native, refl)
-      tid (Is k) = (masked (k ∷ []) x, rw moved)
+      tid (Some k) = (masked (k ∷ []) x, rw moved)
 
-      by-average : (o : Option (List ℕ)) (ks : List ℕ) → o ≡ some ks
-          → (k : Mask) × (then o (λ ks. then (moves_before ns f j) (λ y. some (masked ks y))) ≡ some k)
+      by-average : (o : Option (List ℕ)) (ks : List ℕ) → o ≡ Some ks
+          → (k : Mask) × (then o (λ ks. then (moves_before ns f j) (λ y. Some (masked ks y))) ≡ Some k)
       by-average o ks e = (masked ks x, rw (e, moved))
 
-      by-tid : (o : Option Num) (x : Num) → o ≡ some x → (k : Mask) × (then o (on_tid_before ns f j) ≡ some k)
+      by-tid : (o : Option (Option ℕ)) (x : Option ℕ) → o ≡ Some x → (k : Mask) × (then o (on_tid_before ns f j) ≡ Some k)
       by-tid o x e = ((tid x).0, rw e (tid x).1)
 
       go : (a b c : Bool)
-          → cond a (some native) (cond b (then (average_frames ns j) (λ ks. then (moves_for ns f j) (λ y. some (masked ks y))))
-          (cond c (then (tid_frame ns f j) (on_tid ns f j)) none)) ≡ some m
+          → cond a (Some native) (cond b (then (average_frames ns j) (λ ks. then (moves_for ns f j) (λ y. Some (masked ks y))))
+          (cond c (then (tid_frame ns f j) (on_tid ns f j)) None)) ≡ Some m
           → (k : Mask)
-          × (cond a (some native) (cond b (then (average_frames ns j) (λ ks. then (moves_before ns f j) (λ y. some (masked ks y))))
-          (cond c (then (tid_frame ns f j) (on_tid_before ns f j)) none)) ≡ some k)
+          × (cond a (Some native) (cond b (then (average_frames ns j) (λ ks. then (moves_before ns f j) (λ y. Some (masked ks y))))
+          (cond c (then (tid_frame ns f j) (on_tid_before ns f j)) None)) ≡ Some k)
       go true b c e = (native, refl)
       go false true c e =
           let a = then_some (average_frames ns j) _ e in
@@ -285,7 +281,7 @@ module _ (ns : List Node) where
           by-tid (tid_frame ns f j) a.0 a.1.0
       go false false false e = absurd (never e)
 
-module _ (ns : List Node) (ok : AcceptedBefore ns) (n : ℕ) (count : frames_of ns ≡ Is n) (f : ℕ) (low : 1 ≤ f) (high : f ≤ n) where
+module _ (ns : List Node) (ok : AcceptedBefore ns) (n : ℕ) (count : frames_of ns ≡ Some n) (f : ℕ) (low : 1 ≤ f) (high : f ≤ n) where
   r35-before : rule35_before ns ≡ true
   unfolding rule_before per_frame first_frame frame_count
   r35-before = ok 35 (omega arith) (omega arith) 0 (omega arith) (omega arith)
@@ -294,21 +290,21 @@ module _ (ns : List Node) (ok : AcceptedBefore ns) (n : ℕ) (count : frames_of 
   unfolding rule_before per_frame first_frame frame_count
   r37-before = ok 37 (omega arith) (omega arith) f low (rw count (omega arith))
 
-  by-item : (j : ℕ) → Among j (mask_items ns) → (m : Mask) → mask_by ns f j ≡ some m → (k : Mask) × (mask_by_before ns f j ≡ some k)
+  by-item : (j : ℕ) → Among j (mask_items ns) → (m : Mask) → mask_by ns f j ≡ Some m → (k : Mask) × (mask_by_before ns f j ≡ Some k)
   unfolding rule35_before
   by-item j a =
       let x = moves_before_lem ns f j (shift-whole ns f j (r36 ns (still-accepted ns ok)) r37-before a
       (every-at (shift_fitted ns) a r35-before)) in
       mask-before ns f j x.0 x.1
 
-  on-before : (o : Option Applying) → Applies (mask_items ns) o → (m : Mask) → then o (mask_on ns f) ≡ some m
-      → (k : Mask) × (then o (mask_on_before ns f) ≡ some k)
+  on-before : (o : Option (Option ℕ)) → Applies (mask_items ns) o → (m : Mask) → then o (mask_on ns f) ≡ Some m
+      → (k : Mask) × (then o (mask_on_before ns f) ≡ Some k)
   on-before o (nothing q) m e = (native, rw q)
   on-before o (applying.item j a q) m e =
       let k = by-item j a m (rw q at e) in
       (k.0, rw q k.1)
 
-  mask-had : (m : Mask) → mask_for ns f ≡ some m → (k : Mask) × (mask_for_before ns f ≡ some k)
+  mask-had : (m : Mask) → mask_for ns f ≡ Some m → (k : Mask) × (mask_for_before ns f ≡ Some k)
   unfolding mask_for mask_for_before
   mask-had m e = on-before (applying_to ns f) (applies ns f n (r31 ns (still-accepted ns ok)) (ranges ns (still-accepted ns ok) n count)) m e
 
@@ -321,7 +317,7 @@ keeps-pictures s b ok =
     record {
       accepted = now-ok;
       pictures = λ f low high.
-          let h : f ≤ o.n = subst (λ (x : Num). f ≤ number_or0 x) o.frames high in
+          let h : f ≤ o.n = subst (λ (x : Option ℕ). f ≤ number_or0 x) o.frames high in
           let d = nothing-lacks s b now-ok f low high in
           let w = windowed ns now-ok o f low h in
           let m = masking ns now-ok o.n o.frames o.some-frame o.few-frames f low h in

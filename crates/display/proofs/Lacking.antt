@@ -1,9 +1,9 @@
 -- For a frame of an accepted object no step lacks anything: its cells all answer, and the list of them is the picture. What
 -- demand 3 (Drawing) says of the definitions is `nothing-lacks`.
+use Rattle.std.specs.Prelude.{Option, Some, None}
 use mathlib.Core.Path.{◌≡◌, refl, sym, ap, ◌∙◌, subst}
 use mathlib.Core.Bool.{Bool, true, false, ◌&&◌}
 use mathlib.Core.List.{List, [], ◌∷◌, ◌++◌}
-use mathlib.Core.Option.{some}
 use Prim.Native.Nat.{ℕ, zero, suc, ◌-◌, ◌*◌, ◌/◌, ◌%◌, ◌^◌, ◌≤◌, ◌<◌}
 use native.Mathlib.Omega.{arith}
 use lib.ListN.{length, length-append}
@@ -12,8 +12,6 @@ use lib.Dec.{eqb, leb}
 use borrow.Author.Tests.{ne_eqb, le-leb}
 use Rattle.value.specs.Number.{number_or0}
 use Rattle.basics.specs.Bytes.{IsBytes}
-use Rattle.value.specs.declared.Num.{Num}
-use Rattle.value.specs.declared.Num.TheVariants.{Is, None}
 use Rattle.shift.specs.declared.Moves.{Moves}
 use Rattle.node.specs.Nodes.{Node, nodes_of, root}
 use Rattle.pixel.specs.declared.Geometry.{Geometry}
@@ -48,19 +46,19 @@ all-levels-append [] b p q = q
 all-levels-append (y ∷ ys) b p q = (p.0, all-levels-append ys b p.1 q)
 
 -- A cell that lacks nothing.
-pub record Cell (o : Num) : Type 0 where
+pub record Cell (o : Option ℕ) : Type 0 where
   pub y : ℕ
-  pub is : o ≡ Is y
+  pub is : o ≡ Some y
   pub small : y ≤ 255
 
 -- The list of n cells that lack nothing.
-pub record Cells (f : ℕ → Num) (n : ℕ) : Type 0 where
+pub record Cells (f : ℕ → Option ℕ) (n : ℕ) : Type 0 where
   pub l : List ℕ
-  pub is : collect f n ≡ some l
+  pub is : collect f n ≡ Some l
   pub size : length l ≡ n
   pub levels : AllLevels l
 
-pub collect-all : (f : ℕ → Num) (n : ℕ) → ((i : ℕ) → i < n → Cell (f i)) → Cells f n
+pub collect-all : (f : ℕ → Option ℕ) (n : ℕ) → ((i : ℕ) → i < n → Cell (f i)) → Cells f n
 unfolding collect
 collect-all f zero h = record { l = []; is = refl; size = refl; levels = tt }
 collect-all f (suc n) h =
@@ -116,25 +114,25 @@ are-frames g v n h (k ∷ ks) a = rw (h k a.0.0 a.0.1, are-frames g v n h ks a.1
 -- ---- The size of the picture
 
 -- The size of a frame is Rows × Columns.
-size-checked : (t : Bool) (x g : Geometry) → check t (some x) ≡ some g → samples_of g ≡ samples_of x
+size-checked : (t : Bool) (x g : Geometry) → check t (Some x) ≡ Some g → samples_of g ≡ samples_of x
 size-checked true x g e =
     let q : x ≡ g = cc in
     ap samples_of (sym q)
 size-checked false x g e = absurd (never e)
 
-size-given : (r c a b : Num) (g : Geometry)
+size-given : (r c a b : Option ℕ) (g : Geometry)
     → need r (λ r. need c (λ c.
-    need a (λ a. need b (λ b. check (leb 8 a && eqb (a % 8) 0) (some (record { rows = r; columns = c; width = a / 8; stored = b }))))))
-    ≡ some g
+    need a (λ a. need b (λ b. check (leb 8 a && eqb (a % 8) 0) (Some (record { rows = r; columns = c; width = a / 8; stored = b }))))))
+    ≡ Some g
     → samples_of g ≡ number_or0 r * number_or0 c
-size-given (Is r) (Is c) (Is a) (Is b) g e = size-checked (leb 8 a && eqb (a % 8) 0)
+size-given (Some r) (Some c) (Some a) (Some b) g e = size-checked (leb 8 a && eqb (a % 8) 0)
     (record { rows = r; columns = c; width = a / 8; stored = b }) g e
-size-given (Is r) (Is c) (Is a) None g e = absurd (never e)
-size-given (Is r) (Is c) None b g e = absurd (never e)
-size-given (Is r) None a b g e = absurd (never e)
+size-given (Some r) (Some c) (Some a) None g e = absurd (never e)
+size-given (Some r) (Some c) None b g e = absurd (never e)
+size-given (Some r) None a b g e = absurd (never e)
 size-given None c a b g e = absurd (never e)
 
-pub geometry-size : (ns : List Node) (g : Geometry) → geometry_of ns ≡ some g → samples_of g ≡ image_size ns
+pub geometry-size : (ns : List Node) (g : Geometry) → geometry_of ns ≡ Some g → samples_of g ≡ image_size ns
 unfolding geometry_of
 geometry-size ns g e = size-given (us_in ns Tags.Rows (root ns)) (us_in ns Tags.Columns (root ns)) (us_in ns Tags.BitsAllocated (root ns))
     (us_in ns Tags.BitsStored (root ns)) g e
@@ -175,5 +173,5 @@ pub nothing-lacks : (s : List ℕ) → IsBytes s → finding_of (nodes_of s) ≡
 nothing-lacks s b ok f low high =
     let ns = nodes_of s in
     let o = object ns (λ tag k e. us-in-small s b tag k (root ns) e) ok in
-    let h : f ≤ o.n = subst (λ (x : Num). f ≤ number_or0 x) o.frames high in
+    let h : f ≤ o.n = subst (λ (x : Option ℕ). f ≤ number_or0 x) o.frames high in
     drawn ns f o low h (windowed ns ok o f low h) (masking ns ok o.n o.frames o.some-frame o.few-frames f low h)

@@ -1,9 +1,9 @@
 -- An accepted object gives the steps what they need, because every rule holds at its frames, and a rule that holds found
 -- each element that it reads.
+use Rattle.std.specs.Prelude.{Option, Some, None}
 use mathlib.Core.Path.{◌≡◌, refl, sym, ◌∙◌, subst}
 use mathlib.Core.Bool.{Bool, true, false, ◌&&◌, ◌||◌}
 use mathlib.Core.List.{List, [], ◌∷◌}
-use mathlib.Core.Option.{some}
 use mathlib.Core.Logic.{◌⊎◌, inl, inr}
 use Prim.Native.Nat.{ℕ, ◌*◌, ◌/◌, ◌%◌, ◌^◌, ◌≤◌, ◌<◌}
 use native.Mathlib.Nat.{mul-le-mul_right, mul_assoc, one-le-pow}
@@ -12,8 +12,6 @@ use lib.Dec.{eqb, leb}
 use lib.ListN.{length, get_or}
 use borrow.Author.Tests.{le-leb, leb-true, eqb-true}
 use Rattle.basics.specs.Bytes.{same_bytes}
-use Rattle.value.specs.declared.Num.{Num}
-use Rattle.value.specs.declared.Num.TheVariants.{Is, None}
 use Rattle.value.specs.declared.Signed.{Signed}
 use Rattle.value.specs.declared.Signed.TheVariants as signed
 use Rattle.value.specs.Text.{ascii, values_of, value_of, is_single, trim_start, trim_end}
@@ -104,18 +102,18 @@ lettered : (v word : List ℕ) → is_word [] word ≡ false → is_word v word 
 lettered [] word n e = absurd (false-is-true (sym n ∙ e))
 lettered (c ∷ v) word n e = le-leb 1 (length (c ∷ v)) (omega arith)
 
-inverse-is : (ns : List Node) (i : ℕ) → find_vr ns Tags.PhotometricInterpretation CS (root ns) ≡ Is i → leb 1 (length (value_at ns i)) ≡ true
-    → is_single (value_at ns i) ≡ true → inverse_of ns ≡ some (is_word (value_at ns i) (ascii "MONOCHROME1"))
+inverse-is : (ns : List Node) (i : ℕ) → find_vr ns Tags.PhotometricInterpretation CS (root ns) ≡ Some i → leb 1 (length (value_at ns i)) ≡ true
+    → is_single (value_at ns i) ≡ true → inverse_of ns ≡ Some (is_word (value_at ns i) (ascii "MONOCHROME1"))
 unfolding inverse_of
 inverse-is ns i e l h = rw (e, l, h)
 
-photometric-of : (ns : List Node) → rule10 ns ≡ true → (t : Bool) × (inverse_of ns ≡ some t)
+photometric-of : (ns : List Node) → rule10 ns ≡ true → (t : Bool) × (inverse_of ns ≡ Some t)
 unfolding rule10 photometric_is
 photometric-of ns e = go (or-either (photometric_is ns (ascii "MONOCHROME1")) (photometric_is ns (ascii "MONOCHROME2")) e)
   where
     word : (w : List ℕ) → is_word [] w ≡ false
         → holds (find_vr ns Tags.PhotometricInterpretation CS (root ns)) (λ i. is_word (value_at ns i) w) ≡ true
-        → (t : Bool) × (inverse_of ns ≡ some t)
+        → (t : Bool) × (inverse_of ns ≡ Some t)
     word w n h =
         let a = holds-is (find_vr ns Tags.PhotometricInterpretation CS (root ns)) (λ i. is_word (value_at ns i) w) h in (
           is_word (value_at ns a.0) (ascii "MONOCHROME1"),
@@ -123,7 +121,7 @@ photometric-of ns e = go (or-either (photometric_is ns (ascii "MONOCHROME1")) (p
         )
 
     go : (photometric_is ns (ascii "MONOCHROME1") ≡ true) ⊎ (photometric_is ns (ascii "MONOCHROME2") ≡ true)
-        → (t : Bool) × (inverse_of ns ≡ some t)
+        → (t : Bool) × (inverse_of ns ≡ Some t)
     go (inl h) = word (ascii "MONOCHROME1") (no-letter 0x4D (ascii "ONOCHROME1")) h
     go (inr h) = word (ascii "MONOCHROME2") (no-letter 0x4D (ascii "ONOCHROME2")) h
 
@@ -135,17 +133,17 @@ record Facts (ns : List Node) : Type 0 where
   a : ℕ
   b : ℕ
   p : ℕ
-  count : frames_of ns ≡ Is n
+  count : frames_of ns ≡ Some n
   some-frame : 1 ≤ n
   few-frames : n ≤ 65535
-  rows : us_in ns Tags.Rows (root ns) ≡ Is r
+  rows : us_in ns Tags.Rows (root ns) ≡ Some r
   some-row : 1 ≤ r
-  columns : us_in ns Tags.Columns (root ns) ≡ Is c
+  columns : us_in ns Tags.Columns (root ns) ≡ Some c
   some-column : 1 ≤ c
-  allocated : us_in ns Tags.BitsAllocated (root ns) ≡ Is a
-  stored : us_in ns Tags.BitsStored (root ns) ≡ Is b
+  allocated : us_in ns Tags.BitsAllocated (root ns) ≡ Some a
+  stored : us_in ns Tags.BitsStored (root ns) ≡ Some b
   cells : Bits a b
-  pixels : find ns Tags.PixelData (root ns) ≡ Is p
+  pixels : find ns Tags.PixelData (root ns) ≡ Some p
   vr : (eqb (node_at ns p).vr OW || eqb (node_at ns p).vr OB) ≡ true
   size : length (value_at ns p) ≡ padded (n * r * c * (a / 8))
 
@@ -198,11 +196,11 @@ module _ (ns : List Node) where
     abbrev shape : Geometry
     shape = record { rows = k.r; columns = k.c; width = k.a / 8; stored = k.b }
 
-    shape_is : geometry_of ns ≡ some shape
+    shape_is : geometry_of ns ≡ Some shape
     unfolding geometry_of
     shape_is = rw (k.rows, k.columns, k.allocated, k.stored, k.cells.bytes)
 
-    pixels-found : pixels_of ns ≡ some (value_at ns k.p)
+    pixels-found : pixels_of ns ≡ Some (value_at ns k.p)
     unfolding pixels_of
     pixels-found = rw (k.pixels, k.vr)
 
@@ -256,24 +254,24 @@ all_first p v e = go (values_of v) (values-some v) e
     go [] h q = absurd (omega arith)
     go (x ∷ vs) h q = (and_both (p x) (all p vs) q).0
 
-pub width-number : (least : ℕ) (s : Signed) → is_width least s ≡ true → is_number s ≡ true
-width-number least (signed.Plus n) e = refl
-width-number least (signed.Minus n) e = absurd (false-is-true e)
-width-number least signed.None e = absurd (false-is-true e)
+pub width-number : (least : ℕ) (s : Option Signed) → is_width least s ≡ true → is_number s ≡ true
+width-number least (Some (signed.Plus n)) e = refl
+width-number least (Some (signed.Minus n)) e = absurd (false-is-true e)
+width-number least None e = absurd (false-is-true e)
 
 -- A window in a VOI item: the first centre and the first width.
-abbrev first_of : List Node → ℕ → Signed
+abbrev first_of : List Node → ℕ → Option Signed
 first_of ns i = decimal_of (value_of (value_at ns i) 0)
 
 module _ (ns : List Node) (is : List ℕ) where
-  window-is : (c w : ℕ) → find_vr ns Tags.WindowCenter DS is ≡ Is c → find_vr ns Tags.WindowWidth DS is ≡ Is w
+  window-is : (c w : ℕ) → find_vr ns Tags.WindowCenter DS is ≡ Some c → find_vr ns Tags.WindowWidth DS is ≡ Some w
       → is_number (first_of ns c) ≡ true
       → is_number (first_of ns w) ≡ true → is_function (function_in ns is) ≡ true
-      → window_in ns is ≡ some (record { center = first_of ns c; width = first_of ns w; function = function_in ns is })
+      → window_in ns is ≡ Some (record { center = first_of ns c; width = first_of ns w; function = function_in ns is })
   unfolding window_in
   window-is c w p q x y z = rw (p, q, x, y, z)
 
-  window-in : has_window ns is ≡ true → (w : Window) × ((window_in ns is ≡ some w) × Drawable w)
+  window-in : has_window ns is ≡ true → (w : Window) × ((window_in ns is ≡ Some w) × Drawable w)
   unfolding has_window is_window all_decimals all_widths
   window-in e =
       let c = holds-is (find_vr ns Tags.WindowCenter DS is) _ e in
@@ -307,21 +305,21 @@ full-drawable stored h =
       narrow = omega arith;
     }
 
-item-window : (ns : List Node) (stored g j : ℕ) (w : Window) → the_item ns g ≡ Is j → window_in ns (inside ns j) ≡ some w
-    → window_on ns stored (Is g) ≡ some w
+item-window : (ns : List Node) (stored g j : ℕ) (w : Window) → the_item ns g ≡ Some j → window_in ns (inside ns j) ≡ Some w
+    → window_on ns stored (Some g) ≡ Some w
 item-window ns stored g j w e h = rw e h
 
-window_on_lem : (ns : List Node) (stored : ℕ) → stored ≤ 16 → (o : Num) → if_present o (is_voi ns) ≡ true
-    → (w : Window) × ((window_on ns stored o ≡ some w) × Drawable w)
+window_on_lem : (ns : List Node) (stored : ℕ) → stored ≤ 16 → (o : Option ℕ) → if_present o (is_voi ns) ≡ true
+    → (w : Window) × ((window_on ns stored o ≡ Some w) × Drawable w)
 unfolding is_voi
 window_on_lem ns stored h None e = (full_window stored, (refl, full-drawable stored h))
-window_on_lem ns stored h (Is g) e =
+window_on_lem ns stored h (Some g) e =
     let j = holds-is (the_item ns g) (λ i. has_window ns (inside ns i)) e in
     let w = window-in ns (inside ns j.0) j.1.1 in
     (w.0, (item-window ns stored g j.0 w.0 j.1.0 w.1.0, w.1.1))
 
-group-window : (ns : List Node) (f stored : ℕ) (o : Num) (w : Window) → group_for ns f Tags.FrameVOILUTSequence ≡ some o
-    → window_on ns stored o ≡ some w → window_for ns f stored ≡ some w
+group-window : (ns : List Node) (f stored : ℕ) (o : Option ℕ) (w : Window) → group_for ns f Tags.FrameVOILUTSequence ≡ Some o
+    → window_on ns stored o ≡ Some w → window_for ns f stored ≡ Some w
 unfolding window_for
 group-window ns f stored o w e h = rw e h
 

@@ -1,9 +1,9 @@
 -- What painting leaves in the image buffer is the picture that the steps give: each place of the table of shades is the
 -- level of the x that the cell has there.
+use Rattle.std.specs.Prelude.{Option, Some}
 use mathlib.Core.Path.{◌≡◌, refl, sym, ap, ◌∙◌}
 use mathlib.Core.Bool.{Bool}
 use mathlib.Core.List.{List, [], ◌∷◌, ◌++◌, append_assoc}
-use mathlib.Core.Option.{some}
 use Prim.Native.Nat.{ℕ, zero, suc, ◌+◌, ◌-◌, ◌^◌, ◌≤◌, ◌<◌}
 use native.Mathlib.Omega.{arith}
 use lib.ListN.{length, length-append, drop, get_or, set}
@@ -11,8 +11,6 @@ use lib.Seq.{drop-cons, set_at}
 use lib.IntN.{ℤ, pos, negsuc, ◌+ℤ◌, ◌-ℤ◌}
 use lib.Pow.{pow_pos}
 use borrow.Author.Tests.{le-leb}
-use Rattle.value.specs.declared.Num.{Num}
-use Rattle.value.specs.declared.Num.TheVariants.{Is}
 use Rattle.shift.specs.declared.Moves.{Moves}
 use Rattle.pixel.specs.declared.Geometry.{Geometry}
 use Rattle.pixel.specs.Pixel.{samples_of, sample_at, blended_at}
@@ -31,13 +29,13 @@ use Rattle.display.proofs.Lacking.{some_bits}
 -- ---- Painted cells are collected cells
 
 -- The cells that f gives, painted, are those that are collected, with the image untouched beyond them.
-pub record Collected (F : ℕ → Num) (f : ℕ → ℕ) (n : ℕ) (image : List ℕ) : Type 0 where
+pub record Collected (F : ℕ → Option ℕ) (f : ℕ → ℕ) (n : ℕ) (image : List ℕ) : Type 0 where
   pub l : List ℕ
-  pub is : collect F n ≡ some l
+  pub is : collect F n ≡ Some l
   pub size : length l ≡ n
   pub image-is : painted f n image ≡ l ++ drop n image
 
-pub collected : (F : ℕ → Num) (f : ℕ → ℕ) (n : ℕ) (image : List ℕ) → n ≤ length image → ((i : ℕ) → i < n → F i ≡ Is (f i))
+pub collected : (F : ℕ → Option ℕ) (f : ℕ → ℕ) (n : ℕ) (image : List ℕ) → n ≤ length image → ((i : ℕ) → i < n → F i ≡ Some (f i))
     → Collected F f n image
 unfolding collect painted
 collected F f zero image h e = record { l = []; is = refl; size = refl; image-is = refl }
@@ -64,15 +62,15 @@ same (negsuc m) (negsuc n) a b p q = ap negsuc (omega (arith, p.is, q.is))
 -- The shade at a place whose x is the cell's.
 shade-cell : (w : Window) → Drawable w → (stored : ℕ) (inverse : Bool) (i : ℕ) (x : ℤ)
     → pos (i + 2 ^ (stored - 1)) -ℤ pos (2 ^ stored - 1) ≡ x
-    → shaded inverse (level_of w x) ≡ Is (shade_at w stored inverse i)
+    → shaded inverse (level_of w x) ≡ Some (shade_at w stored inverse i)
 shade-cell w d stored inverse i x e =
     let l = leveled w x in
     ap (shaded inverse) l.is ∙ shaded-is inverse l.y l.small
-    ∙ ap Is (sym (shade-is w stored inverse i l.y l.small (rw e l.is)))
+    ∙ ap Some (sym (shade-is w stored inverse i l.y l.small (rw e l.is)))
 
 module _ (g : Geometry) (v : List ℕ) (f : ℕ) (low : 1 ≤ g.stored) (w : Window) (d : Drawable w) (inverse : Bool)
     (table : List ℕ) (t : Filled (shade_at w g.stored inverse) (2 ^ (g.stored + 1) - 1) table) where
-  pub native-is : (i : ℕ) → native_cell g v f w inverse i ≡ Is (native_shade table g v f i)
+  pub native-is : (i : ℕ) → native_cell g v f w inverse i ≡ Some (native_shade table g v f i)
   unfolding native_cell native_shade
   native-is i =
       let s : ℕ = sample_at g v f i in
@@ -83,10 +81,10 @@ module _ (g : Geometry) (v : List ℕ) (f : ℕ) (low : 1 ≤ g.stored) (w : Win
       let k : s + (q - p) < 2 ^ (g.stored + 1) - 1 = omega (arith, power-twice g.stored, pow_pos g.stored) in
       let x : pos (s + (q - p) + p) -ℤ pos q ≡ pos s = same (pos (s + (q - p) + p) -ℤ pos q) (pos s) (s + (q - p) + p) q
       (gap (s + (q - p) + p) q) (shift (whole s) (s + (q - p) + p) q (omega arith)) in
-      shade-cell w d g.stored inverse (s + (q - p)) (pos s) x ∙ ap Is (sym (t.value (s + (q - p)) k))
+      shade-cell w d g.stored inverse (s + (q - p)) (pos s) x ∙ ap Some (sym (t.value (s + (q - p)) k))
 
   pub masked-is : (ks : List ℕ) (mv : Moves) → 1 ≤ length ks → length ks ≤ 64 → (i : ℕ) → i < samples_of g
-      → masked_cell g v f ks mv w inverse i ≡ Is (masked_shade table g v f ks mv i)
+      → masked_cell g v f ks mv w inverse i ≡ Some (masked_shade table g v f ks mv i)
   unfolding masked_cell masked_shade
   masked-is ks mv one few i inside =
       let s : ℕ = sample_at g v f i in
@@ -101,4 +99,4 @@ module _ (g : Geometry) (v : List ℕ) (f : ℕ) (low : 1 ≤ g.stored) (w : Win
       same (pos (s + q - a + p) -ℤ pos q) (pos s -ℤ pos a +ℤ pos p) (s + q - a + p) q (gap (s + q - a + p) q)
       (shift (plus (gap s a) (whole p)) (s + q - a + p) q (omega arith)) in
       rw (le-leb 1 (length ks) one, are-inside g mv i inside, some_bits g.stored low)
-      (shade-cell w d g.stored inverse (s + q - a) (pos s -ℤ pos a +ℤ pos p) x ∙ ap Is (sym (t.value (s + q - a) k)))
+      (shade-cell w d g.stored inverse (s + q - a) (pos s -ℤ pos a +ℤ pos p) x ∙ ap Some (sym (t.value (s + q - a) k)))

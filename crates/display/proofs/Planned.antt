@@ -1,9 +1,9 @@
 -- The cells of a picture, one by one: what the painting functions write is what the steps give, so the cells of frame f are the shades of
 -- its samples.
+use Rattle.std.specs.Prelude.{Some}
 use mathlib.Core.Path.{◌≡◌, sym, ap, ◌∙◌, subst}
 use mathlib.Core.Bool.{Bool, true}
 use mathlib.Core.List.{List, [], ◌++◌, append-nil}
-use mathlib.Core.Option.{some}
 use Prim.Native.Nat.{ℕ, ◌+◌, ◌-◌, ◌^◌, ◌≤◌}
 use native.Mathlib.Omega.{arith}
 use lib.ListN.{length, drop, drop_of_length-le}
@@ -40,10 +40,10 @@ ends l m z n e k h =
     sym (append-nil l) ∙ (sym a ∙ append-nil m)
 
 module _ (ns : List Node) (f n : ℕ) (g : Geometry) (v : List ℕ) (w : Window) (inverse : Bool)
-    (is_g : geometry_of ns ≡ some g) (is_v : pixels_of ns ≡ some v) (frame : is_frame g v f ≡ true) (is_w : window_for ns f g.stored ≡ some w)
-    (d : Drawable w) (is_i : inverse_of ns ≡ some inverse) (whole : (k : ℕ) → 1 ≤ k → k ≤ n → is_frame g v k ≡ true) (low : 1 ≤ g.stored)
+    (is_g : geometry_of ns ≡ Some g) (is_v : pixels_of ns ≡ Some v) (frame : is_frame g v f ≡ true) (is_w : window_for ns f g.stored ≡ Some w)
+    (d : Drawable w) (is_i : inverse_of ns ≡ Some inverse) (whole : (k : ℕ) → 1 ≤ k → k ≤ n → is_frame g v k ≡ true) (low : 1 ≤ g.stored)
     (table : List ℕ) (t : Filled (shade_at w g.stored inverse) (2 ^ (g.stored + 1) - 1) table) where
-  pub drawn : (k : Masking) → masking_of ns k ≡ mask_for ns f → Gives n (mask_for ns f) → length (picture_of ns f).samples ≡ samples_of g
+  pub drawn : (k : Masking) → Some (masking_of ns k) ≡ mask_for ns f → Gives n (mask_for ns f) → length (picture_of ns f).samples ≡ samples_of g
       → Drawn ns f (is_masked k) (shade_by ns table g v f k) (samples_of g)
   drawn k e q size =
       let z : List ℕ = up_to (λ _. 0) (samples_of g) in
@@ -57,7 +57,7 @@ module _ (ns : List Node) (f n : ℕ) (g : Geometry) (v : List ℕ) (w : Window)
 
 -- ---- A frame of an accepted object, by its plan
 
-module _ {s rows : List ℕ} {n : ℕ} {c : Scene} {f : ℕ} {p : Plan} (r : PlanReady s rows n c f p) where
+module _ {s : List ℕ} {n : ℕ} {c : Scene} {f : ℕ} {p : Plan} (r : PlanReady s n c f p) where
   pub based : Based (nodes_of s) f n c.g (value_at (nodes_of s) c.p)
   based = scenes.based s n f r.object r.low r.high c r.scene
 
@@ -73,8 +73,8 @@ module _ {s rows : List ℕ} {n : ℕ} {c : Scene} {f : ℕ} {p : Plan} (r : Pla
   picture t same-window same-inverse =
       drawn (nodes_of s) f n c.g (value_at (nodes_of s) c.p) t.window t.inverse r.scene.geometry
       (scenes.pixels-are s n f r.object r.low r.high c r.scene).is based.inside
-      (r.plan.window-is ∙ ap some (sym same-window)) (subst Drawable (sym same-window) r.plan.drawable)
-      (r.scene.inverse-is ∙ ap some (sym same-inverse)) based.each based.shape.stored_some
+      (r.plan.window-is ∙ ap Some (sym same-window)) (subst Drawable (sym same-window) r.plan.drawable)
+      (r.scene.inverse-is ∙ ap Some (sym same-inverse)) based.each based.shape.stored_some
       (shades_of t c.g.stored) (ideal-filled t c.g.stored based.shape.stored-most) p.masking
       r.plan.masking-is (scenes.all s n f r.object r.low r.high c r.scene).mask
       (scenes.picture-size s n f r.object r.low r.high c r.scene)

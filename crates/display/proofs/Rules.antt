@@ -1,13 +1,11 @@
 -- The rules of an accepted object hold, each at the frames at which it is asked, because no rule is found broken. What a rule asks at a
 -- frame it asks of the shared item and the frame's item, so that both are there.
+use Rattle.std.specs.Prelude.{Option, Some, None}
 use mathlib.Core.Path.{◌≡◌, refl}
 use mathlib.Core.Bool.{Bool, true, false}
 use mathlib.Core.List.{List}
-use mathlib.Core.Option.{some}
 use Prim.Native.Nat.{ℕ, ◌≤◌}
 use native.Mathlib.Omega.{arith}
-use Rattle.value.specs.declared.Num.{Num}
-use Rattle.value.specs.declared.Num.TheVariants.{Is, None}
 use Rattle.verdict.specs.Verdict.{last_rule, per_frame}
 use Rattle.node.specs.Nodes.{Node, inside}
 use Rattle.node.specs.Find.{holds, or_else, find}
@@ -30,8 +28,8 @@ use Rattle.steps.specs.Steps.{or_shared, group_for}
 pub record AtItems (ns : List Node) (f : ℕ) (asked : ℕ → ℕ → Bool) : Type 0 where
   pub s : ℕ
   pub i : ℕ
-  pub shared : shared_item ns ≡ Is s
-  pub item : frame_item ns f ≡ Is i
+  pub shared : shared_item ns ≡ Some s
+  pub item : frame_item ns f ≡ Some i
   pub holds : asked s i ≡ true
 
 pub at-items : (ns : List Node) (f : ℕ) (asked : ℕ → ℕ → Bool) → at_frame ns f asked ≡ true → AtItems ns f asked
@@ -41,14 +39,14 @@ at-items ns f asked e =
     record { s = a.0; i = b.0; shared = a.1.0; item = b.1.0; holds = b.1.1 }
 
 -- A frame's group, where both items are there.
-pub group-is : (ns : List Node) (f tag s i : ℕ) → shared_item ns ≡ Is s → frame_item ns f ≡ Is i
-    → group_for ns f tag ≡ some (group_of ns tag s i)
+pub group-is : (ns : List Node) (f tag s i : ℕ) → shared_item ns ≡ Some s → frame_item ns f ≡ Some i
+    → group_for ns f tag ≡ Some (group_of ns tag s i)
 unfolding group_for
 group-is ns f tag s i a b = rw b (go (find ns tag (inside ns i)))
   where
-    go : (o : Num) → or_shared ns tag o ≡ some (or_else o (find ns tag (inside ns s)))
+    go : (o : Option ℕ) → or_shared ns tag o ≡ Some (or_else o (find ns tag (inside ns s)))
     go None = rw a
-    go (Is g) = refl
+    go (Some g) = refl
 
 -- ---- The rules of an accepted object
 
@@ -57,7 +55,7 @@ module _ (ns : List Node) (ok : finding_of ns ≡ Accepted) where
   unfolding first_frame frame_count
   at_once rule a b e = accepted-holds ns ok rule a (omega arith) 0 (rw e (omega arith)) (rw e (omega arith))
 
-  at-frame : (rule n f : ℕ) → 1 ≤ rule → rule ≤ last_rule → per_frame rule ≡ true → frames_of ns ≡ Is n → 1 ≤ f → f ≤ n
+  at-frame : (rule n f : ℕ) → 1 ≤ rule → rule ≤ last_rule → per_frame rule ≡ true → frames_of ns ≡ Some n → 1 ≤ f → f ≤ n
       → rule_at ns rule f ≡ true
   unfolding first_frame frame_count
   at-frame rule n f a b e c l h = accepted-holds ns ok rule a (omega arith) f (rw e (omega arith)) (rw (e, c) (omega arith))
@@ -106,7 +104,7 @@ module _ (ns : List Node) (ok : finding_of ns ≡ Accepted) where
   unfolding rule_at rule_list per_frame
   r38 = at_once 38 (omega arith) (omega arith) refl
 
-  module _ (n f : ℕ) (count : frames_of ns ≡ Is n) (low : 1 ≤ f) (high : f ≤ n) where
+  module _ (n f : ℕ) (count : frames_of ns ≡ Some n) (low : 1 ≤ f) (high : f ≤ n) where
     pub r30 : rule30 ns f ≡ true
     unfolding rule_at rule_list per_frame
     r30 = at-frame 30 n f (omega arith) (omega arith) refl count low high

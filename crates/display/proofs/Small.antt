@@ -1,4 +1,5 @@
 -- A US that is read from bytes is below 65,536: its value is a part of the data set, whose bytes are below 256.
+use Rattle.std.specs.Prelude.{Option, Some, None}
 use mathlib.Core.Path.{◌≡◌}
 use mathlib.Core.Bool.{Bool, true, false, cond}
 use mathlib.Core.List.{List, [], ◌∷◌, map}
@@ -9,10 +10,8 @@ use lib.Dec.{eqb}
 use Rattle.basics.specs.Bytes.{IsBytes, le16}
 use Rattle.basics.specs.Vr.{US}
 use Rattle.basics.proofs.Bytes.{none-bytes, take-bytes, drop-bytes}
-use Rattle.dataset.specs.Reading.{Row}
+use Rattle.dataset.specs.declared.Row.{Row}
 use Rattle.dataset.specs.Tree.{rows_of}
-use Rattle.value.specs.declared.Num.{Num}
-use Rattle.value.specs.declared.Num.TheVariants.{Is, None}
 use Rattle.value.specs.Number.{us_of}
 use Rattle.node.specs.Nodes.{holds_nodes, node_of, nodes_of, no_node, node_at}
 use Rattle.node.specs.Find.{and_then, find_vr}
@@ -30,20 +29,20 @@ node-bytes s b [] i = none-bytes
 node-bytes s b (r ∷ rs) zero = value-bytes s b r
 node-bytes s b (r ∷ rs) (suc i) = node-bytes s b rs i
 
-us-small : (v : List ℕ) → IsBytes v → (k : ℕ) → us_of v ≡ Is k → k < 65536
+us-small : (v : List ℕ) → IsBytes v → (k : ℕ) → us_of v ≡ Some k → k < 65536
 unfolding us_of le16
 us-small v b k e = go (eqb (length v) 2) e
   where
-    go : (t : Bool) → cond t (Is (get_or v 0 0 + 256 * get_or v (0 + 1) 0)) None ≡ Is k → k < 65536
+    go : (t : Bool) → cond t (Some (get_or v 0 0 + 256 * get_or v (0 + 1) 0)) None ≡ Some k → k < 65536
     go true e =
         let q : get_or v 0 0 + 256 * get_or v (0 + 1) 0 ≡ k = cc in
         omega (arith, b 0, b (0 + 1))
     go false e = let z : ◌≡◌ {A = ℕ} 0 1 = cc in absurd (omega arith)
 
-pub us-in-small : (s : List ℕ) → IsBytes s → (tag k : ℕ) (is : List ℕ) → us_in (nodes_of s) tag is ≡ Is k → k < 65536
+pub us-in-small : (s : List ℕ) → IsBytes s → (tag k : ℕ) (is : List ℕ) → us_in (nodes_of s) tag is ≡ Some k → k < 65536
 unfolding nodes_of
 us-in-small s b tag k is e = go (find_vr (nodes_of s) tag US is) e
   where
-    go : (o : Num) → and_then o (λ i. us_of (node_at (nodes_of s) i).value) ≡ Is k → k < 65536
-    go (Is i) e = us-small (node_at (nodes_of s) i).value (node-bytes s b (rows_of s) i) k e
+    go : (o : Option ℕ) → and_then o (λ i. us_of (node_at (nodes_of s) i).value) ≡ Some k → k < 65536
+    go (Some i) e = us-small (node_at (nodes_of s) i).value (node-bytes s b (rows_of s) i) k e
     go None e = let z : ◌≡◌ {A = ℕ} 0 1 = cc in absurd (omega arith)

@@ -1,13 +1,12 @@
 -- An accepted object holds all that drawing frame f of it rests on, since each fact follows from a rule: here they are in one place.
-use mathlib.Core.Path.{◌≡◌, sym, ◌∙◌, subst}
+use Rattle.std.specs.Prelude.{Option, Some}
+use mathlib.Core.Path.{◌≡◌, sym, subst}
 use mathlib.Core.Bool.{true}
 use mathlib.Core.List.{List, [], ◌∷◌}
-use mathlib.Core.Option.{Option, some}
 use Prim.Native.Nat.{ℕ, zero, suc, ◌≤◌, ◌<◌}
 use lib.ListN.{length, get_or}
 use native.Mathlib.Omega.{arith}
 use Rattle.basics.specs.Bytes.{IsBytes}
-use Rattle.value.specs.declared.Num.TheVariants.{Is}
 use Rattle.node.specs.Nodes.{Node, nodes_of, root}
 use Rattle.element.specs.Frames.{frames_of}
 use Rattle.conformance.specs.declared.Finding.TheVariants.{Accepted}
@@ -22,7 +21,7 @@ use Rattle.display.specs.declared.Masking.{Masking}
 use Rattle.display.specs.declared.Masking.TheVariants as masking
 use Rattle.display.specs.Internal.{AllWithin, Gives, masking_of, MaskingBelow, MasksReady}
 use Rattle.display.specs.Show.{image_size}
-use Rattle.steps.proofs.Given.{never, same_some}
+use Rattle.steps.proofs.Given.{same_some}
 use Rattle.display.proofs.Lacking.{geometry-size}
 use Rattle.display.proofs.Small.{us-in-small}
 use Rattle.node.proofs.Tests.{same-is}
@@ -38,7 +37,7 @@ pub record All (ns : List Node) (f n : ℕ) : Type 0 where
   pub win : GivesWindow ns f o.g.stored
   pub mask : Gives n (mask_for ns f)
 
-pub all_of : (s : List ℕ) → IsBytes s → finding_of (nodes_of s) ≡ Accepted → (f n : ℕ) → frames_of (nodes_of s) ≡ Is n → 1 ≤ f → f ≤ n
+pub all_of : (s : List ℕ) → IsBytes s → finding_of (nodes_of s) ≡ Accepted → (f n : ℕ) → frames_of (nodes_of s) ≡ Some n → 1 ≤ f → f ≤ n
     → All (nodes_of s) f n
 all_of s b ok f n frames low high =
     let ns = nodes_of s in
@@ -57,7 +56,7 @@ all-at n (x ∷ ks) a (suc k) h = all-at n ks a.1 k (omega arith)
 
 module _ (ns : List Node) (v : List ℕ) (g : Geometry) (n : ℕ) (whole : (k : ℕ) → 1 ≤ k → k ≤ n → is_frame g v k ≡ true)
     (few : n ≤ 65535) where
-  pub masks-ready : (k : Masking) (o : Option Mask) → masking_of ns k ≡ o → MaskingBelow (length ns) k → Gives n o → MasksReady ns v g k
+  pub masks-ready : (k : Masking) (o : Option Mask) → Some (masking_of ns k) ≡ o → MaskingBelow (length ns) k → Gives n o → MasksReady ns v g k
   masks-ready masking.Native o e b q = tt
   masks-ready (masking.Average k m) o e b q =
       let s = gives-sound n (mask_of (us_values (value_at ns k)) m) o (sym e) q in (
@@ -77,7 +76,6 @@ module _ (ns : List Node) (v : List ℕ) (g : Geometry) (n : ℕ) (whole : (k : 
         omega (arith, s.1.1.0.0.1),
         (whole t s.1.1.0.0.0 s.1.1.0.0.1, s.1.1.1.sizes),
       )
-  masks-ready masking.Lacks o e b q = absurd (never (e ∙ q.mask))
 
 -- ---- The same over the answers that the code has
 
@@ -89,7 +87,7 @@ pub record Based (ns : List Node) (f n : ℕ) (g : Geometry) (v : List ℕ) : Ty
   pub few : n ≤ 65535
   pub win : GivesWindow ns f g.stored
 
-pub based_on : (ns : List Node) (f n : ℕ) (g : Geometry) (v : List ℕ) → All ns f n → 1 ≤ f → geometry_of ns ≡ some g → pixels_of ns ≡ some v
+pub based_on : (ns : List Node) (f n : ℕ) (g : Geometry) (v : List ℕ) → All ns f n → 1 ≤ f → geometry_of ns ≡ Some g → pixels_of ns ≡ Some v
     → Based ns f n g v
 based_on ns f n g v a low eg ev =
     let o = a.o in

@@ -4,12 +4,9 @@
 -- present steps give the same picture, masked or native, cell for cell. The second statement (`SamePictures`) does not ask for
 -- acceptance: wherever the old steps give a picture, for any data set and any frame number, the present steps give it too. The old rules
 -- and the old step are here for these statements alone; no code follows them. Proved in proofs/Before.
-use Rattle.std.specs.Prelude.{ℕ, ◌+◌, ◌-◌, ◌^◌, ◌≤◌, ◌<◌, ◌≡◌, Bool, true, false, cond, ◌&&◌, List, [], ◌∷◌, length, eqb, leb, ltb, pos, ◌+ℤ◌, ◌-ℤ◌}
-use Rattle.std.proofs.Math.Option.{Option, none, some}
+use Rattle.std.specs.Prelude.{ℕ, ◌+◌, ◌-◌, ◌^◌, ◌≤◌, ◌<◌, ◌≡◌, Bool, true, false, cond, ◌&&◌, List, [], ◌∷◌, length, eqb, leb, ltb, pos, ◌+ℤ◌, ◌-ℤ◌, Option, Some, None}
 use Rattle.basics.specs.Bytes.{IsBytes}
 use Rattle.basics.specs.Vr.{SQ, FL}
-use Rattle.value.specs.declared.Num.{Num}
-use Rattle.value.specs.declared.Num.TheVariants.{Is, None}
 use Rattle.value.specs.Text.{ascii}
 use Rattle.value.specs.Number.{is_number, number_or0}
 use Rattle.shift.specs.declared.Moves.{Moves}
@@ -29,8 +26,6 @@ use Rattle.pixel.specs.Pixel.{samples_of, is_frame, sample_at, mask_at}
 use Rattle.pixel.specs.Whole.{source_of}
 use Rattle.window.specs.declared.Window.{Window}
 use Rattle.window.specs.Window.{level_of, level_half, shaded}
-use Rattle.steps.specs.declared.Applying.{Applying}
-use Rattle.steps.specs.declared.Applying.TheVariants.{Item, Nothing}
 use Rattle.steps.specs.Given.{check, then, collect}
 use Rattle.steps.specs.Steps.{Picture, Mask, native, masked, geometry_of, pixels_of, applying_to, average_frames, tid_frame, shift_for, window_for}
 use Rattle.steps.specs.Steps.{inverse_of, native_cell, are_frames, steps_of}
@@ -74,27 +69,27 @@ AcceptedBefore ns = (rule : ℕ) → 1 ≤ rule → rule ≤ last_rule → (f : 
 unfoldable pub moves_before : List Node → ℕ → ℕ → Option Moves
 moves_before ns f j =
     then (shift_for ns f j) (λ s.
-    check (is_number (whole_moves_of s).vertical && is_number (whole_moves_of s).horizontal) (some (whole_moves_of s)))
+    check (is_number (whole_moves_of s).vertical && is_number (whole_moves_of s).horizontal) (Some (whole_moves_of s)))
 
-abbrev pub on_tid_before : List Node → ℕ → ℕ → Num → Option Mask
-on_tid_before ns f j None = some native
-on_tid_before ns f j (Is k) = then (moves_before ns f j) (λ m. some (masked (k ∷ []) m))
+abbrev pub on_tid_before : List Node → ℕ → ℕ → Option ℕ → Option Mask
+on_tid_before ns f j None = Some native
+on_tid_before ns f j (Some k) = then (moves_before ns f j) (λ m. Some (masked (k ∷ []) m))
 
 unfoldable pub mask_by_before : List Node → ℕ → ℕ → Option Mask
 mask_by_before ns f j =
-    cond (operation_is ns (ascii "NONE") j) (some native)
-    (cond (operation_is ns (ascii "AVG_SUB") j) (then (average_frames ns j) (λ ks. then (moves_before ns f j) (λ m. some (masked ks m))))
+    cond (operation_is ns (ascii "NONE") j) (Some native)
+    (cond (operation_is ns (ascii "AVG_SUB") j) (then (average_frames ns j) (λ ks. then (moves_before ns f j) (λ m. Some (masked ks m))))
     (cond (operation_is ns (ascii "TID") j) (then (tid_frame ns f j) (on_tid_before ns f j))
-    none))
+    None))
 
-abbrev pub mask_on_before : List Node → ℕ → Applying → Option Mask
-mask_on_before ns f Nothing = some native
-mask_on_before ns f (Item j) = mask_by_before ns f j
+abbrev pub mask_on_before : List Node → ℕ → Option ℕ → Option Mask
+mask_on_before ns f None = Some native
+mask_on_before ns f (Some j) = mask_by_before ns f j
 
 unfoldable pub mask_for_before : List Node → ℕ → Option Mask
 mask_for_before ns f = then (applying_to ns f) (mask_on_before ns f)
 
-unfoldable pub masked_cell_before : Geometry → List ℕ → ℕ → List ℕ → Moves → Window → Bool → ℕ → Num
+unfoldable pub masked_cell_before : Geometry → List ℕ → ℕ → List ℕ → Moves → Window → Bool → ℕ → Option ℕ
 masked_cell_before g v f ks m w inverse i =
     cond (leb 1 (length ks) && ltb (source_of g m i) (samples_of g))
     (shaded inverse
@@ -105,10 +100,10 @@ masked_cell_before g v f ks m w inverse i =
 
 unfoldable pub picture_before : Geometry → List ℕ → ℕ → Window → Bool → Mask → Option Picture
 picture_before g v f w inverse native =
-    then (collect (native_cell g v f w inverse) (samples_of g)) (λ l. some (record { masked = false; samples = l }))
+    then (collect (native_cell g v f w inverse) (samples_of g)) (λ l. Some (record { masked = false; samples = l }))
 picture_before g v f w inverse (masked ks m) =
     check (are_frames g v ks)
-    (then (collect (masked_cell_before g v f ks m w inverse) (samples_of g)) (λ l. some (record { masked = true; samples = l })))
+    (then (collect (masked_cell_before g v f ks m w inverse) (samples_of g)) (λ l. Some (record { masked = true; samples = l })))
 
 -- Drawing frame f.
 unfoldable pub steps_before : List Node → ℕ → Option Picture
@@ -126,8 +121,8 @@ steps_before ns f =
 -- The old and the present steps give the same picture.
 pub record DrawnAlike (ns : List Node) (f : ℕ) : Type 0 where
   pub p : Picture
-  pub before : steps_before ns f ≡ some p
-  pub after : steps_of ns f ≡ some p
+  pub before : steps_before ns f ≡ Some p
+  pub after : steps_of ns f ≡ Some p
 
 pub record PicturesKept (s : List ℕ) : Type 0 where
   pub accepted : finding_of (nodes_of s) ≡ Accepted
@@ -137,4 +132,4 @@ abbrev pub KeepsPictures : Type 0
 KeepsPictures = (s : List ℕ) → IsBytes s → AcceptedBefore (nodes_of s) → PicturesKept s
 
 abbrev pub SamePictures : Type 0
-SamePictures = (ns : List Node) (f : ℕ) (p : Picture) → steps_before ns f ≡ some p → steps_of ns f ≡ some p
+SamePictures = (ns : List Node) (f : ℕ) (p : Picture) → steps_before ns f ≡ Some p → steps_of ns f ≡ Some p

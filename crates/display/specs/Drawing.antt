@@ -7,10 +7,10 @@
 -- for cell, is the picture that the steps give, and the image buffer is untouched beyond it. The statement covers all steps, frames and
 -- cells at once. It is made of the same definitions of the rules and of the steps that the calls are proved to follow, and no rule is
 -- built into the steps. Proved in proofs/Drawing.
-use Rattle.std.specs.Prelude.{◌≡◌, cond, List, [], ◌∷◌, ◌++◌, ℕ, ◌*◌, ◌≤◌, length, drop}
-use Rattle.std.proofs.Math.Option.{some}
+use Rattle.std.specs.Prelude.{◌≡◌, cond, List, [], ◌∷◌, ◌++◌, ℕ, ◌*◌, ◌≤◌, length, drop, Some}
 use Rattle.value.specs.Number.{number_or0}
-use Rattle.dataset.specs.Reading.{Row, reading_of, read}
+use Rattle.dataset.specs.Reading.{reading_of, read}
+use Rattle.dataset.specs.declared.Row.{Row}
 use Rattle.dataset.specs.Answer.{width}
 use Rattle.dataset.specs.Tree.{rows_of}
 use Rattle.node.specs.Nodes.{Node, nodes_of}
@@ -44,14 +44,14 @@ AllLevels (y ∷ ys) = (y ≤ 255) × AllLevels ys
 -- The steps lack nothing at frame f: they give a picture of exactly Rows × Columns cells, each from 0 to 255.
 pub record Whole (ns : List Node) (f : ℕ) : Type 0 where
   pub p : Picture
-  pub is : steps_of ns f ≡ some p
+  pub is : steps_of ns f ≡ Some p
   pub size : length p.samples ≡ image_size ns
   pub levels : AllLevels p.samples
 
 -- The steps give a picture p, and `show` hands back p.
 pub record HandsBack (s : List ℕ) (f : ℕ) (buffer image : List ℕ) : Type 0 where
   pub p : Picture
-  pub is : steps_of (nodes_of s) f ≡ some p
+  pub is : steps_of (nodes_of s) f ≡ Some p
   pub rows : (fields_of (show_of s f buffer image)).rows ≡ length (rows_of s)
   pub masked : (fields_of (show_of s f buffer image)).masked ≡ cond p.masked 1 0
   pub cells : image_of s f buffer image ≡ p.samples ++ drop (image_size (nodes_of s)) image

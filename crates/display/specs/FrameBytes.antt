@@ -4,11 +4,9 @@
 -- the bytes of that part are the steps' pixel bytes. And the view that the code makes of frame f of it, for any f, lies in the data set
 -- f - 1 frames after the offset of Pixel Data, is as long as a frame, and holds the cells that step 1 reads as those of frame f
 -- (`InDataSet` of `Rattle.frame`). Proved in proofs/FrameBytes.
-use Rattle.std.specs.Prelude.{◌≡◌, List, ℕ}
-use Rattle.std.proofs.Math.Option.{some}
+use Rattle.std.specs.Prelude.{◌≡◌, List, ℕ, Some}
 use Rattle.std.specs.Borrow.{Bor}
 use Rattle.basics.specs.Tags
-use Rattle.value.specs.declared.Num.TheVariants.{Is}
 use Rattle.dataset.specs.Tree.{rows_of, row_at}
 use Rattle.node.specs.Nodes.{nodes_of, root}
 use Rattle.node.specs.Find.{find}
@@ -19,9 +17,9 @@ use Rattle.steps.specs.Steps.{geometry_of, pixels_of}
 
 -- The row, the geometry and the pixel bytes l of a data set as lent, as the steps find them.
 pub record Lent (bytes : Bor (List ℕ)) (p : ℕ) (g : Geometry) (l : List ℕ) : Type 0 where
-  pub row : find (nodes_of bytes.now) Tags.PixelData (root (nodes_of bytes.now)) ≡ Is p
-  pub geometry : geometry_of (nodes_of bytes.now) ≡ some g
-  pub pixels : pixels_of (nodes_of bytes.now) ≡ some l
+  pub row : find (nodes_of bytes.now) Tags.PixelData (root (nodes_of bytes.now)) ≡ Some p
+  pub geometry : geometry_of (nodes_of bytes.now) ≡ Some g
+  pub pixels : pixels_of (nodes_of bytes.now) ≡ Some l
 
 -- What the code has in hand: the value of row p, as `value_part` promises it, and frame f of it, as `view` does.
 pub record InHand (bytes : Bor (List ℕ)) (p : ℕ) (g : Geometry) (pixels : Bor (List ℕ)) (f : ℕ) (v : FrameView) : Type 0 where

@@ -1,4 +1,5 @@
 -- Pairs of numbers; and items along a sequence: how many there are, which is the one, and where a cursor stands among them.
+use Rattle.std.specs.Prelude.{Option, Some, None}
 use mathlib.Core.Path.{◌≡◌, refl, sym}
 use Prim.Native.Nat.{ℕ, suc, ◌+◌, ◌%◌, ◌≤◌, ◌<◌}
 use native.Mathlib.Omega.{arith}
@@ -9,8 +10,6 @@ use lib.Dec.{eqb, leb}
 use borrow.Author.Tests.{eq-eqb, ne_eqb, eqb-true}
 use Rattle.basics.proofs.Tests.{and_both}
 use Rattle.basics.specs.Vr.{SQ, US}
-use Rattle.value.specs.declared.Num.{Num}
-use Rattle.value.specs.declared.Num.TheVariants.{Is, None}
 use Rattle.node.specs.Nodes.{Node, node_at, next_node, members, inside}
 use Rattle.node.proofs.Walks.{members-end, members-next}
 use Rattle.element.specs.Elements.{value_at, one_item, the_item, first, has_pairs}
@@ -34,36 +33,25 @@ module _ (ns : List Node) (i : ℕ) where
   unfolding the_item one_item
   one-item-other h = rw (ne_eqb (node_at ns i).vr SQ h)
 
-  module _ (q : (node_at ns i).vr ≡ SQ) where
-    pub one-item-none : next_node ns i ≤ i + 1 → the_item ns i ≡ None
+  module _ (items : List ℕ) (q : (node_at ns i).vr ≡ SQ) (e : items ≡ inside ns i) where
+    pub one-item-none : items ≡ [] → the_item ns i ≡ None
     unfolding the_item one_item
-    one-item-none h = rw (eq-eqb (node_at ns i).vr SQ q, members-end ns (i + 1) (next_node ns i) h)
+    one-item-none h = rw (eq-eqb (node_at ns i).vr SQ q, ← e, h)
 
-    pub one-item-many : i + 1 < next_node ns i → next_node ns (i + 1) < next_node ns i → the_item ns i ≡ None
+    pub one-item-one : (k : ℕ) (rest : List ℕ) → items ≡ k ∷ rest → rest ≡ [] → the_item ns i ≡ Some k
     unfolding the_item one_item
-    one-item-many h k =
-        rw (
-          eq-eqb (node_at ns i).vr SQ q,
-          members-next ns (i + 1) (next_node ns i) h,
-          members-next ns (next_node ns (i + 1)) (next_node ns i) k,
-          two-not-one,
-        )
+    one-item-one k rest h z = rw (eq-eqb (node_at ns i).vr SQ q, ← e, h, z)
 
-    pub one-item-one : i + 1 < next_node ns i → next_node ns i ≤ next_node ns (i + 1) → the_item ns i ≡ Is (i + 1)
+    pub one-item-many : (k j : ℕ) (rest left : List ℕ) → items ≡ k ∷ rest → rest ≡ j ∷ left → the_item ns i ≡ None
     unfolding the_item one_item
-    one-item-one h k =
-        rw (
-          eq-eqb (node_at ns i).vr SQ q,
-          members-next ns (i + 1) (next_node ns i) h,
-          members-end ns (next_node ns (i + 1)) (next_node ns i) k,
-        )
+    one-item-many k j rest left h m = rw (eq-eqb (node_at ns i).vr SQ q, ← e, h, m, two-not-one)
 
 -- A sequence of one item has that item, and what has no one item is no such sequence.
-pub one-item-is : (ns : List Node) (i k : ℕ) → the_item ns i ≡ Is k → true ≡ one_item ns i
+pub one-item-is : (ns : List Node) (i k : ℕ) → the_item ns i ≡ Some k → true ≡ one_item ns i
 unfolding the_item
 one-item-is ns i k e = go (one_item ns i) (first (inside ns i)) e
   where
-    go : (b : Bool) (f : Num) → cond b f None ≡ Is k → true ≡ b
+    go : (b : Bool) (f : Option ℕ) → cond b f None ≡ Some k → true ≡ b
     go true f e = refl
     go false f e = let z : ◌≡◌ {A = ℕ} 0 1 = cc in absurd (omega arith)
 

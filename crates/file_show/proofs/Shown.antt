@@ -1,79 +1,79 @@
--- What each arm of showing a file comes to: the answer is that of the bare call by what the judge answered, with 18 put in only where
--- there are rows.
+-- A data set that was judged left its rows in the buffer; where its class is another, the answer is 18 whatever the bare call answers.
+use Rattle.std.specs.Prelude.{Result, Ok, Err}
+use Rattle.std.specs.Result.{MatchResult, is_ok}
 use mathlib.Core.Path.{◌≡◌, refl, sym, ap, ◌∙◌}
 use mathlib.Core.Bool.{Bool, true, false, cond}
+use Prim.Native.Nat.{ℕ, ◌*◌, ◌≤◌, ◌<◌}
 use mathlib.Core.List.{List}
-use Prim.Native.Nat.{ℕ}
-use lib.ListN.{length}
+use native.Mathlib.Omega.{arith}
+use lib.ListN.{length, take}
+use lib.Seq.{length-take-le}
+use Rattle.dataset.specs.Reading.{reading_of}
+use Rattle.dataset.specs.Answer.{width, buffer_of}
+use Rattle.dataset.specs.declared.ReadError.{ReadError}
 use lib.Dec.{leb}
 use Rattle.node.specs.Nodes.{Node, nodes_of}
-use Rattle.conformance.specs.declared.JudgeAnswer.{JudgeAnswer}
-use Rattle.conformance.specs.declared.JudgeAnswer.TheVariants as judged
-use Rattle.conformance.specs.Judging.{judge_of}
-use Rattle.display.specs.Show.{is_frame_of, image_size, picture_of, accepted_answer, answer_for as shown_for, image_by}
-use Rattle.display.specs.declared.ShowAnswer.{ShowAnswer}
-use Rattle.display.specs.declared.ShowAnswer.TheVariants as shown
-use Rattle.display.proofs.Judged.{shown_by, image-by}
+use Rattle.node.specs.Internal.{Table}
+use Rattle.conformance.specs.declared.Outcome.{Outcome}
+use Rattle.conformance.specs.declared.Outcome.TheVariants as outcome
+use Rattle.conformance.specs.declared.Finding.TheVariants as finding
+use Rattle.conformance.specs.Judging.{finding_of, judge_of, accepted_in}
+use Rattle.conformance.proofs.After.{after-judging, after-broken}
+use Rattle.display.specs.declared.ShowError.{ShowError}
+use Rattle.display.specs.declared.ShowError.TheVariants as error
+use Rattle.display.specs.Show.{is_frame_of, image_size, picture_of, accepted_answer, answer_for, show_of}
+use Rattle.file_read.specs.declared.FileError.{FileError}
+use Rattle.file_read.specs.declared.FileError.TheVariants.{OtherClass}
 use Rattle.file_read.specs.ReadFile.{same_class}
-use Rattle.file_show.specs.declared.ShowFileAnswer.{ShowFileAnswer}
-use Rattle.file_show.specs.declared.ShowFileAnswer.TheVariants as show_file
-use Rattle.file_show.specs.ShowFile.{show_in, show_part, image_in, image_part}
+use Rattle.file_show.specs.ShowFile.{show_in, show_part}
+use Rattle.file_show.specs.Internal.{row_count}
 
--- ---- Showing, by what the judge answered and whether the classes are the same
+rows-judged : (s before buffer : List ℕ) (o : Outcome) → Ok o ≡ judge_of s before → buffer ≡ buffer_of (reading_of s) before
+    → (width * row_count o ≤ length buffer) × Table s (take (width * row_count o) buffer)
+rows-judged s before buffer (outcome.Accepted n) e f = (after-judging s before buffer n e f).0
+rows-judged s before buffer (outcome.Broken n rule frame) e f = after-broken s before buffer n rule frame e f
 
-show-same : (a : ShowAnswer) → show_in true a ≡ show_file.Shown a
-show-same (shown.Drawn n masked) = refl
-show-same (shown.Broken n rule frame) = refl
-show-same shown.NoFrame = refl
-show-same shown.NoImageRoom = refl
-show-same (shown.Refused code offset) = refl
-show-same shown.TooLarge = refl
-show-same shown.NoRoom = refl
+-- What is no error once the error is changed was none before.
+was-ok : (o : Outcome) (r : Result Outcome ReadError) (Q : ReadError → Type 0)
+    → MatchResult r (λ (x : Outcome). ◌≡◌ {A = Result Outcome (FileError ShowError)} (Ok o) (Ok x)) Q → true ≡ is_ok r → Ok o ≡ r
+was-ok o (Ok x) Q m v =
+    let q : o ≡ x = cc in
+    ap (λ (y : Outcome). Ok y) q
+was-ok o (Err e) Q m v = let z : ◌≡◌ {A = ℕ} 0 1 = cc in absurd (omega arith)
 
-show-other : (ns : List Node) (f : ℕ) (image : List ℕ) (n : ℕ) → show_in false (accepted_answer ns f image n) ≡ show_file.OtherClass
+show-other : (ns : List Node) (f : ℕ) (image : List ℕ) (o : Outcome) → Err OtherClass ≡ show_in false (answer_for ns f image (accepted_in (Ok o)))
 unfolding accepted_answer
-show-other ns f image n = go (is_frame_of ns f) (leb (image_size ns) (length image))
+show-other ns f image (outcome.Accepted n) = go (is_frame_of ns f) (leb (image_size ns) (length image))
   where
-    go : (t u : Bool)
-        → show_in false (cond t (cond u (shown.Drawn n (picture_of ns f).masked) shown.NoImageRoom) shown.NoFrame) ≡ show_file.OtherClass
+    go : (t u : Bool) → Err OtherClass
+        ≡ show_in false (cond t (cond u (Ok (record { rows = n; masked = (picture_of ns f).masked })) (Err error.NoImageRoom)) (Err error.NoFrame))
     go true true = refl
     go true false = refl
     go false u = refl
+show-other ns f image (outcome.Broken n rule frame) = refl
 
-module _ (s class : List ℕ) (f : ℕ) (before image : List ℕ) (j : JudgeAnswer) (e : j ≡ judge_of s before) where
-  pub part-shown : (same : Bool) → same ≡ same_class class (nodes_of s)
-      → show_in same (shown_for (nodes_of s) f image j) ≡ show_part s class f before image
-  unfolding show_part
-  part-shown same q = ap (λ (b : Bool). show_in b (shown_for (nodes_of s) f image j)) q
-      ∙ ap (show_in (same_class class (nodes_of s))) (shown_by s f before image j e)
+module _ (s before buffer : List ℕ) (o : Outcome) (r : Result Outcome ReadError) (Q : ReadError → Type 0)
+    (told : MatchResult r (λ (x : Outcome). ◌≡◌ {A = Result Outcome (FileError ShowError)} (Ok o) (Ok x)) Q) (fine : true ≡ is_ok r)
+    (answered : r ≡ judge_of s before) where
+  judged : Ok o ≡ judge_of s before
+  judged = was-ok o r Q told fine ∙ answered
 
-  pub part-image : (same : Bool) → same ≡ same_class class (nodes_of s)
-      → image_in (show_in same (shown_for (nodes_of s) f image j))
-      (image_by (picture_of (nodes_of s) f) image (shown_for (nodes_of s) f image j)) image ≡ image_part s class f before image
-  unfolding image_part
-  part-image same q =
-      ap (λ (x : ShowFileAnswer). image_in x (image_by (picture_of (nodes_of s) f) image (shown_for (nodes_of s) f image j)) image)
-      (part-shown same q)
-      ∙ ap (λ (x : List ℕ). image_in (show_part s class f before image) x image) (image-by s f before image j e)
+  module _ (left : buffer ≡ buffer_of (reading_of s) before) (n : ℕ) (count : n ≡ row_count o) where
+    rows-counted : (width * n ≤ length buffer) × Table s (take (width * n) buffer)
+    rows-counted = rw count (rows-judged s before buffer o judged left)
 
--- An accepted data set whose class is the head's, or another.
-module _ (s class : List ℕ) (f : ℕ) (before image : List ℕ) (n : ℕ) (e : judged.Accepted n ≡ judge_of s before) where
-  pub same-shown : true ≡ same_class class (nodes_of s)
-      → show_file.Shown (accepted_answer (nodes_of s) f image n) ≡ show_part s class f before image
-  same-shown q = sym (show-same (accepted_answer (nodes_of s) f image n)) ∙ part-shown s class f before image (judged.Accepted n) e true q
+    pub rows-there : width * n ≤ length buffer
+    rows-there = rows-counted.0
 
-  pub same-image : true ≡ same_class class (nodes_of s)
-      → image_by (picture_of (nodes_of s) f) image (accepted_answer (nodes_of s) f image n) ≡ image_part s class f before image
-  same-image q =
-      sym (ap (λ (x : ShowFileAnswer). image_in x (image_by (picture_of (nodes_of s) f) image (accepted_answer (nodes_of s) f image n)) image)
-      (show-same (accepted_answer (nodes_of s) f image n)))
-      ∙ part-image s class f before image (judged.Accepted n) e true q
+    pub rows-are : Table s (take (width * n) buffer)
+    rows-are = rows-counted.1
 
-  pub other-shown : false ≡ same_class class (nodes_of s) → show_file.OtherClass ≡ show_part s class f before image
-  other-shown q = sym (show-other (nodes_of s) f image n) ∙ part-shown s class f before image (judged.Accepted n) e false q
+    pub rows-few : width * n < 18446744073709551616
+    rows-few = omega (arith, rows-counted.1.size, rows-counted.1.few, length-take-le (width * n) buffer rows-counted.0)
 
-  pub other-image : false ≡ same_class class (nodes_of s) → image ≡ image_part s class f before image
-  other-image q =
-      sym (ap (λ (x : ShowFileAnswer). image_in x (image_by (picture_of (nodes_of s) f) image (accepted_answer (nodes_of s) f image n)) image)
-      (show-other (nodes_of s) f image n))
-      ∙ part-image s class f before image (judged.Accepted n) e false q
+  pub is-sound : buffer ≡ buffer_of (reading_of s) before → (n : ℕ) → o ≡ outcome.Accepted n → finding_of (nodes_of s) ≡ finding.Accepted
+  is-sound left n e = (after-judging s before buffer n (ap (λ (x : Outcome). Ok x) (sym e) ∙ judged) left).1
+
+  pub other-shown : (class image : List ℕ) (f : ℕ) → same_class class (nodes_of s) ≡ false → Err OtherClass ≡ show_part s class f before image
+  unfolding show_part show_of
+  other-shown class image f e = rw (e, ← judged) (show-other (nodes_of s) f image o)

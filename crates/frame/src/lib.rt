@@ -8,7 +8,6 @@ ghost use Rattle.node.specs.Internal.{Table};
 ghost use Rattle.frame.specs.View.{Part, IsView, frame_size};
 ghost use Rattle.frame.specs.Internal.{Fits};
 
-use basics::wider;
 use dataset::WIDTH;
 
 // A frame: its bytes, the number of its rows and of its columns. Public, since display/specs/FrameBytes speaks of it.
@@ -93,12 +92,12 @@ pub fn frame_line<'a>(
 
 // ---- In the data set as lent
 
-// The value of row p, a part of the data set.
+// The value of row p, a part of the data set. It takes the bytes and the rows, and no `DataSet`, since it promises where the bytes lie.
 pub fn value_part<'a, 'b>(bytes: &'a [u8], rows: &'b [u32], p: usize) -> &'a [u8]
     requires { Table bytes.now rows.now × (p < length (nodes_of bytes.now)) }
     ensures { Part bytes.entry (row_at (rows_of bytes.now) p).offset (row_at (rows_of bytes.now) p).size result }
 {
-    let start = wider(rows[WIDTH * p + dataset::OFFSET]);
-    let end = start + wider(rows[WIDTH * p + dataset::SIZE]);
+    let start = rows[WIDTH * p + dataset::OFFSET] as usize;
+    let end = start + rows[WIDTH * p + dataset::SIZE] as usize;
     &bytes[start..end]
 }

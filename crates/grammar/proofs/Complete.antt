@@ -8,6 +8,8 @@ use lib.Dec.{eqb, ltb}
 use mathlib.Core.List.{List, [], ◌∷◌, ◌++◌, append_assoc, append-nil}
 use lib.ListN.{length, take, drop, length-append, length-take, length-drop, take-append-drop}
 use lib.Seq.{drop-drop, drop-length}
+use Rattle.std.specs.Prelude.{Result, Ok, Err}
+use Rattle.dataset.specs.declared.Fault.{Fault}
 use Rattle.dataset.specs.declared.Cursor.{Cursor}
 use Rattle.dataset.specs.declared.Head.{Head}
 use Rattle.dataset.specs.declared.Head.TheVariants as head
@@ -18,7 +20,8 @@ use Rattle.basics.specs.Tags.{item_tag, item_delimiter, sequence_delimiter}
 use Rattle.basics.specs.Limits.{largest}
 use Rattle.dataset.specs.Header.{cursor, moved, element_at, item_at}
 use Rattle.dataset.specs.Tree.{Kind, elements, items}
-use Rattle.dataset.specs.Reading.{Row, row, Run, done, refused, on_head, on_run, level, value_run, elements_at, depths}
+use Rattle.dataset.specs.declared.Row.{Row}
+use Rattle.dataset.specs.Reading.{row, Run, done, refused, on_head, on_run, level, value_run, elements_at, depths}
 use Rattle.dataset.specs.Reading.{too_large, read, whole, reading_of}
 use Rattle.dataset.specs.Internal.{items_at}
 use Rattle.dataset.proofs.Level.{value-plain}
@@ -51,7 +54,7 @@ pub record Made (s : List ℕ) (kind : Kind) (depth least at end : ℕ) (d : Boo
 
 abbrev pub Makes : List ℕ → Kind → ℕ → ℕ → ℕ → ℕ → Bool → ℕ → List Row → Run → Type 0
 Makes s kind depth least at end d first before (done stop next rows) = Made s kind depth least at end d first before stop next rows
-Makes s kind depth least at end d first before (refused code offset) = Unit {0}
+Makes s kind depth least at end d first before (refused fault offset) = Unit {0}
 
 -- What a header with its value adds in front of a forest.
 abbrev pub Grown : List ℕ → Kind → ℕ → ℕ → ℕ → ℕ → List Row → ℕ → List Row → ℕ → Type 0
@@ -59,13 +62,13 @@ Grown s kind depth least at first before tag new next = (stop final : ℕ) (rows
     → Got s kind depth (tag + 1) next first (before ++ new) stop final rows
     → Got s kind depth least at first before stop final rows
 
-abbrev pub Grows : List ℕ → Kind → ℕ → ℕ → ℕ → ℕ → Bool → Head → (ℕ → ℕ → Cursor → Run) → Type 0
-Grows s kind depth least at end d (head.Header tag vr v) inside = (first : ℕ) (before : List Row) (stop next : ℕ) (below : List Row)
+abbrev pub Grows : List ℕ → Kind → ℕ → ℕ → ℕ → ℕ → Bool → Result Head Fault → (ℕ → ℕ → Cursor → Run) → Type 0
+Grows s kind depth least at end d (Ok (head.Header tag vr v)) inside = (first : ℕ) (before : List Row) (stop next : ℕ) (below : List Row)
     → inside (first + length before + 1) vr v ≡ done stop next below
     → (next ≤ end) × Grown s kind depth least at first before tag (row tag vr depth v.at (stop - v.at) (length below) first ∷ below)
     next
-Grows s kind depth least at end d (head.End tag vr next) inside = Ended s kind at end d next.at
-Grows s kind depth least at end d (head.Refused code) inside = Unit {0}
+Grows s kind depth least at end d (Ok (head.End tag vr next)) inside = Ended s kind at end d next.at
+Grows s kind depth least at end d (Err fault) inside = Unit {0}
 
 pub nothing : (s : List ℕ) (kind : Kind) (depth least at first : ℕ) (before : List Row)
     → Got s kind depth least at first before at least before
@@ -73,7 +76,7 @@ unfolding Valid spell rows_at least_after
 nothing s kind depth least at first before =
     record { forest = none; valid = tt; is = λ n _. sym (append-nil before); size = omega arith; spelt = refl; last = refl }
 
-module _ (s : List ℕ) (kind : Kind) (depth end : ℕ) (d : Bool) (first : ℕ) (at_head : ℕ → ℕ → Head) (inside : ℕ → ℕ → Cursor → Run)
+module _ (s : List ℕ) (kind : Kind) (depth end : ℕ) (d : Bool) (first : ℕ) (at_head : ℕ → ℕ → Result Head Fault) (inside : ℕ → ℕ → Cursor → Run)
     (grows : (at least : ℕ) → Grows s kind depth least at end d (at_head at least) inside) where
   level-makes : (turns at least : ℕ) (before : List Row)
       → Makes s kind depth least at end d first before (level at_head inside depth first turns at least before)
@@ -88,7 +91,7 @@ module _ (s : List ℕ) (kind : Kind) (depth end : ℕ) (d : Bool) (first : ℕ)
 
       joins : (tag next : ℕ) (new : List Row) → Grown s kind depth least at first before tag new next
           → (o : Run) → Makes s kind depth (tag + 1) next end d first (before ++ new) o → Makes s kind depth least at end d first before o
-      joins tag next new g (refused code offset) m = tt
+      joins tag next new g (refused fault offset) m = tt
       joins tag next new g (done stop after rows) m =
           record { final = m.final; got = g stop m.final rows m.got; ended = m.ended }
 
@@ -99,22 +102,22 @@ module _ (s : List ℕ) (kind : Kind) (depth end : ℕ) (d : Bool) (first : ℕ)
           → Makes s kind depth least at end d first before (on_run o (λ stop next below.
           level at_head inside depth first turns next (tag + 1)
           (before ++ (row tag vr depth v.at (stop - v.at) (length below) first ∷ below))))
-      on-run k tag vr v (refused code offset) g = tt
+      on-run k tag vr v (refused fault offset) g = tt
       on-run k tag vr v (done stop next below) g =
           let new : List Row = row tag vr depth v.at (stop - v.at) (length below) first ∷ below in
           joins tag next new (g stop next below refl).1 (level at_head inside depth first turns next (tag + 1) (before ++ new))
           (k next tag new)
 
-      on-head : Next → (h : Head) → Grows s kind depth least at end d h inside → Makes s kind depth least at end d first before (on_head h
-          (λ code. refused code at)
+      on-head : Next → (h : Result Head Fault) → Grows s kind depth least at end d h inside → Makes s kind depth least at end d first before (on_head h
+          (λ fault. refused fault at)
           (λ next. done at next before)
           (λ tag vr v. on_run (inside (first + length before + 1) vr v) (λ stop next below.
           level at_head inside depth first turns next (tag + 1)
           (before ++ (row tag vr depth v.at (stop - v.at) (length below) first ∷ below)))))
-      on-head k (head.Refused code) g = tt
-      on-head k (head.End tag vr next) g =
+      on-head k (Err fault) g = tt
+      on-head k (Ok (head.End tag vr next)) g =
           record { final = least; got = nothing s kind depth least at first before; ended = g }
-      on-head k (head.Header tag vr v) g = on-run k tag vr v (inside (first + length before + 1) vr v) (g first before)
+      on-head k (Ok (head.Header tag vr v)) g = on-run k tag vr v (inside (first + length before + 1) vr v) (g first before)
 
 -- ---- How a container closes
 
@@ -400,23 +403,23 @@ module _ (s : List ℕ) (bytes : IsBytes s) where
             plain g.short o.even (omega (arith, o.fits)) (leaf-bytes s c tag vr g.size v o) first before),
       )
 
-  pub element-grows : (levels : ℕ) → levels ≤ 8 → Deeper levels → (c : Cursor) (least : ℕ) → c.end ≤ length s → (h : Head)
+  pub element-grows : (levels : ℕ) → levels ≤ 8 → Deeper levels → (c : Cursor) (least : ℕ) → c.end ≤ length s → (h : Result Head Fault)
       → Says s elements least levels c h
       → Grows s elements (depths - levels) least c.at c.end c.delimited h (value_run levels s)
-  element-grows levels few deeper c least room (head.Refused code) g = tt
-  element-grows levels few deeper c least room (head.End tag vr next) g = g
-  element-grows levels few deeper c least room (head.Header tag vr v) g = value_grows levels few deeper c least room tag vr v g (eqb vr SQ)
+  element-grows levels few deeper c least room (Err fault) g = tt
+  element-grows levels few deeper c least room (Ok (head.End tag vr next)) g = g
+  element-grows levels few deeper c least room (Ok (head.Header tag vr v)) g = value_grows levels few deeper c least room tag vr v g (eqb vr SQ)
       refl
 
   abbrev pub Inner : ℕ → Type 0
   Inner levels = (n : ℕ) (v : Cursor) → v.end ≤ length s
       → Makes s elements (depths - levels) 0 v.at v.end v.delimited n [] (elements_at levels s n v)
 
-  pub member-grows : (levels : ℕ) → Inner levels → (c : Cursor) (least : ℕ) → c.end ≤ length s → (h : Head) → Says s items least levels c h
+  pub member-grows : (levels : ℕ) → Inner levels → (c : Cursor) (least : ℕ) → c.end ≤ length s → (h : Result Head Fault) → Says s items least levels c h
       → Grows s items (depths - levels) least c.at c.end c.delimited h (λ n vr v. elements_at levels s n v)
-  member-grows levels inside c least room (head.Refused code) g = tt
-  member-grows levels inside c least room (head.End tag vr next) g = g
-  member-grows levels inside c least room (head.Header tag vr v) g = λ first before stop next below e.
+  member-grows levels inside c least room (Err fault) g = tt
+  member-grows levels inside c least room (Ok (head.End tag vr next)) g = g
+  member-grows levels inside c least room (Ok (head.Header tag vr v)) g = λ first before stop next below e.
       let m = made_of elements (depths - levels) (depths - levels) v.at v.end v.delimited (first + length before + 1)
       (elements_at levels s (first + length before + 1) v)
       (inside (first + length before + 1) v (omega (arith, value-high c 8 (item_header item_tag) g.extent g.size v g.opens))) refl
@@ -477,7 +480,7 @@ complete s bytes rows e = by_size (ltb largest (length s)) refl e
         }
 
     by-run : length s ≤ largest → (o : Run) → Makes s elements 0 0 0 (length s) false 0 [] o → whole o ≡ read rows → Spelt s rows
-    by-run h (refused code offset) m e = let z : ◌≡◌ {A = ℕ} 0 1 = cc in absurd (omega arith)
+    by-run h (refused fault offset) m e = let z : ◌≡◌ {A = ℕ} 0 1 = cc in absurd (omega arith)
     by-run h (done stop next got) m e =
         let z : got ≡ rows = cc in
         subst (λ (l : List Row). Spelt s l) z (spelt h stop next got m m.ended)

@@ -8,7 +8,10 @@ use lib.Dec.{eqb}
 use mathlib.Core.List.{List, ◌∷◌, ◌++◌}
 use lib.ListN.{length, get_or, drop}
 use lib.Seq.{get_or-drop}
+use Rattle.std.specs.Prelude.{Result, Ok, Err}
+use Rattle.dataset.specs.declared.Fault.{Fault}
 use Rattle.dataset.specs.declared.Cursor.{Cursor}
+use Rattle.dataset.specs.declared.Fault.TheVariants.{TooDeep}
 use Rattle.dataset.specs.declared.Head.{Head}
 use Rattle.dataset.specs.declared.Head.TheVariants as head
 use Rattle.basics.specs.Bytes.{le16, le32, tag_at, vr_at, le}
@@ -138,19 +141,19 @@ four-back t at p size xs k here e h a b c d =
 
 -- ---- The checks pass
 
-nested-head : (tag vr levels : ℕ) (v : Cursor) → (vr ≡ SQ → levels ≡ 0 → ⊥) → nested_by tag vr levels v ≡ head.Header tag vr v
+nested-head : (tag vr levels : ℕ) (v : Cursor) → (vr ≡ SQ → levels ≡ 0 → ⊥) → nested_by tag vr levels v ≡ Ok (head.Header tag vr v)
 unfolding nested_by when
 nested-head tag vr levels v n = go (eqb vr SQ) refl (eqb levels 0) refl
   where
     go : (a : Bool) → eqb vr SQ ≡ a → (b : Bool) → eqb levels 0 ≡ b
-        → when a (when b (head.Refused 6) (head.Header tag vr v)) (head.Header tag vr v) ≡ head.Header tag vr v
+        → when a (when b (Err TooDeep) (Ok (head.Header tag vr v))) (Ok (head.Header tag vr v)) ≡ Ok (head.Header tag vr v)
     go true e true f = absurd (n (eqb-true vr SQ e) (eqb-true levels 0 f))
     go true e false f = refl
     go false e b f = refl
 
 module _ (at end : ℕ) (d : Bool) (tag vr levels : ℕ) (deep : vr ≡ SQ → levels ≡ 0 → ⊥) (size : ℕ) (even : size % 2 ≡ 0) where
   defined-head : (start : ℕ) → start + size ≤ end
-      → defined_by (cursor at end d) tag vr start size levels ≡ head.Header tag vr (cursor start (start + size) false)
+      → defined_by (cursor at end d) tag vr start size levels ≡ Ok (head.Header tag vr (cursor start (start + size) false))
   unfolding defined_by when
   defined-head start fits =
       rw (ne_eqb (size % 2) 1 (omega arith), le-ltb (end - start) size (omega arith))
@@ -166,7 +169,7 @@ inner-high defined start size end h = (omega arith, h)
 inner-high undefined start size end h = (h, omega arith)
 
 module _ (t : List ℕ) (at end : ℕ) (d : Bool) (least levels tag vr : ℕ) (good : Tagged least tag) where
-  on-tag : {h : Head} → at + 8 ≤ end → tag_at t at ≡ tag
+  on-tag : {h : Result Head Fault} → at + 8 ≤ end → tag_at t at ≡ tag
       → typed_at t (cursor at end d) tag (vr_at t (at + 4)) (form_of (vr_at t (at + 4))) (le16 t (at + 6)) levels ≡ h
       → element_at t (cursor at end d) least levels ≡ h
   unfolding header_by tagged_at when
@@ -181,7 +184,7 @@ module _ (t : List ℕ) (at end : ℕ) (d : Bool) (least levels tag vr : ℕ) (g
 
   module _ (size : ℕ) (more : List ℕ) (here : drop at t ≡ element_header tag vr size ++ more) where
     element-short : (vr ≡ SQ → levels ≡ 0 → ⊥) → size % 2 ≡ 0 → form_of vr ≡ 1 → size < 65536 → at + 8 + size ≤ end
-        → element_at t (cursor at end d) least levels ≡ head.Header tag vr (cursor (at + 8) (at + 8 + size) false)
+        → element_at t (cursor at end d) least levels ≡ Ok (head.Header tag vr (cursor (at + 8) (at + 8 + size) false))
     unfolding typed_at when
     element-short deep even f small fits =
         let e = here ∙ spelt-short tag vr size more f in
@@ -190,7 +193,7 @@ module _ (t : List ℕ) (at end : ℕ) (d : Bool) (least levels tag vr : ℕ) (g
         on-tag (omega arith) (tag_back t at tag _ e good.small)
         (rw (v, n, f) (defined-head at end d tag vr levels deep size even (at + 8) fits))
 
-    long-on : {h : Head} → form_of vr ≡ 2 → size < 4294967296 → at + 12 ≤ end
+    long-on : {h : Result Head Fault} → form_of vr ≡ 2 → size < 4294967296 → at + 12 ≤ end
         → long_by (cursor at end d) tag vr (at + 12) size levels ≡ h
         → element_at t (cursor at end d) least levels ≡ h
     unfolding typed_at when
@@ -203,7 +206,7 @@ module _ (t : List ℕ) (at end : ℕ) (d : Bool) (least levels tag vr : ℕ) (g
         (rw (v, n, f, le-ltb (end - at) 12 (omega arith), m) k)
 
     element-long : (vr ≡ SQ → levels ≡ 0 → ⊥) → size % 2 ≡ 0 → form_of vr ≡ 2 → size < 4294967295 → at + 12 + size ≤ end
-        → element_at t (cursor at end d) least levels ≡ head.Header tag vr (cursor (at + 12) (at + 12 + size) false)
+        → element_at t (cursor at end d) least levels ≡ Ok (head.Header tag vr (cursor (at + 12) (at + 12 + size) false))
     unfolding long_by when
     element-long deep even f small fits =
         long-on f (omega arith) (omega arith)
@@ -211,12 +214,12 @@ module _ (t : List ℕ) (at end : ℕ) (d : Bool) (least levels tag vr : ℕ) (g
 
     pub element-back : (vr ≡ SQ → levels ≡ 0 → ⊥) → size % 2 ≡ 0 → (form_of vr ≡ 0 → ⊥) → (form_of vr ≡ 1 → size < 65536) → size < 4294967295
         → at + header_size vr + size ≤ end
-        → element_at t (cursor at end d) least levels ≡ head.Header tag vr (cursor (at + header_size vr) (at + header_size vr + size) false)
+        → element_at t (cursor at end d) least levels ≡ Ok (head.Header tag vr (cursor (at + header_size vr) (at + header_size vr + size) false))
     element-back deep even known few small fits = go (form vr)
       where
         go : Form vr
-            → element_at t (cursor at end d) least levels ≡ head.Header tag vr
-            (cursor (at + header_size vr) (at + header_size vr + size) false)
+            → element_at t (cursor at end d) least levels ≡ Ok (head.Header tag vr
+            (cursor (at + header_size vr) (at + header_size vr + size) false))
         go (no f) = absurd (known f)
         go (short f) = rw (size-short vr f) (element-short deep even f (few f) (omega (arith, size-short vr f)))
         go (long f) = rw (size-long vr f) (element-long deep even f small (omega (arith, size-long vr f)))
@@ -226,7 +229,7 @@ pub sequence-back : (extent : Extent) (t : List ℕ) (at end : ℕ) (d : Bool) (
     → Tagged least tag
     → (levels ≡ 0 → ⊥) → size % 2 ≡ 0 → size < 4294967295 → at + header_size SQ + size ≤ end
     → drop at t ≡ element_header tag SQ (length_in extent size) ++ more
-    → element_at t (cursor at end d) least levels ≡ head.Header tag SQ (inner extent (at + header_size SQ) size end)
+    → element_at t (cursor at end d) least levels ≡ Ok (head.Header tag SQ (inner extent (at + header_size SQ) size end))
 unfolding length_in long_by when
 sequence-back defined t at end d least levels tag size more good deep even small fits here =
     element-back t at end d least levels tag SQ good size more here (λ _. deep) even
@@ -239,7 +242,7 @@ sequence-back undefined t at end d least levels tag size more good deep even sma
 pub item_back : (extent : Extent) (t : List ℕ) (at end : ℕ) (d : Bool) (size : ℕ) (more : List ℕ)
     → size % 2 ≡ 0 → size < 4294967295 → at + 8 + size ≤ end
     → drop at t ≡ item_header item_tag (length_in extent size) ++ more
-    → item_at t (cursor at end d) ≡ head.Header item_tag 0 (inner extent (at + 8) size end)
+    → item_at t (cursor at end d) ≡ Ok (head.Header item_tag 0 (inner extent (at + 8) size end))
 unfolding length_in header_by member_at sized_by when
 item_back defined t at end d size more even small fits here =
     let e = here ∙ spelt-item item_tag size more in
@@ -259,7 +262,7 @@ item_back undefined t at end d size more even small fits here =
 
 -- A delimiter.
 pub item-closed : (t : List ℕ) (at end least levels : ℕ) (more : List ℕ) → at + 8 ≤ end → drop at t ≡ item_header item_delimiter 0 ++ more
-    → element_at t (cursor at end true) least levels ≡ head.End item_delimiter 0 (cursor (at + 8) end true)
+    → element_at t (cursor at end true) least levels ≡ Ok (head.End item_delimiter 0 (cursor (at + 8) end true))
 unfolding header_by tagged_at delimiter_by when
 item-closed t at end least levels more fits here =
     let e = here ∙ spelt-item item_delimiter 0 more in
@@ -267,7 +270,7 @@ item-closed t at end least levels more fits here =
     rw (ne_eqb at end (omega arith), le-ltb (end - at) 8 (omega arith), tag_back t at item_delimiter _ e (omega arith), m)
 
 pub sequence-closed : (t : List ℕ) (at end : ℕ) (more : List ℕ) → at + 8 ≤ end → drop at t ≡ item_header sequence_delimiter 0 ++ more
-    → item_at t (cursor at end true) ≡ head.End sequence_delimiter 0 (cursor (at + 8) end true)
+    → item_at t (cursor at end true) ≡ Ok (head.End sequence_delimiter 0 (cursor (at + 8) end true))
 unfolding header_by member_at delimiter_by when
 sequence-closed t at end more fits here =
     let e = here ∙ spelt-item sequence_delimiter 0 more in

@@ -7,6 +7,9 @@ use borrow.Author.Tests.{eqb-true, eqb-false, ltb-false}
 use mathlib.Core.List.{List, [], ◌∷◌, ◌++◌, append_assoc}
 use lib.ListN.{length, get_or, drop}
 use lib.Seq.{drop-cons}
+use Rattle.std.specs.Prelude.{Result, Ok, Err}
+use Rattle.dataset.specs.declared.Fault.{Fault}
+use Rattle.dataset.specs.declared.Fault.TheVariants.{CutShort, NotDue}
 use Rattle.dataset.specs.declared.Cursor.{Cursor}
 use Rattle.dataset.specs.declared.Head.{Head}
 use Rattle.dataset.specs.declared.Head.TheVariants as head
@@ -143,31 +146,31 @@ pub data Ended (s : List ℕ) (kind : Kind) (at end : ℕ) (d : Bool) (next : �
   marked : d ≡ true → next ≡ at + 8 → at + 8 ≤ end → drop at s ≡ item_header (delimiter_of kind) 0 ++ drop (at + 8) s
       → Ended s kind at end d next
 
-abbrev pub Says : List ℕ → Kind → ℕ → ℕ → Cursor → Head → Type 0
-Says s elements least levels c (head.Header tag vr v) = Element s c least levels tag vr v
-Says s items least levels c (head.Header tag vr v) = Item s c tag vr v
-Says s kind least levels c (head.End tag vr next) = Ended s kind c.at c.end c.delimited next.at
-Says s kind least levels c (head.Refused code) = Unit {0}
+abbrev pub Says : List ℕ → Kind → ℕ → ℕ → Cursor → Result Head Fault → Type 0
+Says s elements least levels c (Ok (head.Header tag vr v)) = Element s c least levels tag vr v
+Says s items least levels c (Ok (head.Header tag vr v)) = Item s c tag vr v
+Says s kind least levels c (Ok (head.End tag vr next)) = Ended s kind c.at c.end c.delimited next.at
+Says s kind least levels c (Err fault) = Unit {0}
 
 module _ (s : List ℕ) (kind : Kind) (least levels : ℕ) (c : Cursor) where
-  by-test : (t : Bool) (a b : Head) → (t ≡ true → Says s kind least levels c a) → (t ≡ false → Says s kind least levels c b)
+  by-test : (t : Bool) (a b : Result Head Fault) → (t ≡ true → Says s kind least levels c a) → (t ≡ false → Says s kind least levels c b)
       → Says s kind least levels c (when t a b)
   unfolding when
   by-test true a b p q = p refl
   by-test false a b p q = q refl
 
-  refuses : (code : ℕ) → Says s kind least levels c (head.Refused code)
-  refuses code = by_kind kind
+  refuses : (fault : Fault) → Says s kind least levels c (Err fault)
+  refuses fault = by_kind kind
     where
-      by_kind : (k : Kind) → Says s k least levels c (head.Refused code)
+      by_kind : (k : Kind) → Says s k least levels c (Err fault)
       by_kind elements = tt
       by_kind items = tt
 
   ends : (tag vr : ℕ) (next : Cursor) → Ended s kind c.at c.end c.delimited next.at
-      → Says s kind least levels c (head.End tag vr next)
+      → Says s kind least levels c (Ok (head.End tag vr next))
   ends tag vr next e = by_kind kind e
     where
-      by_kind : (k : Kind) → Ended s k c.at c.end c.delimited next.at → Says s k least levels c (head.End tag vr next)
+      by_kind : (k : Kind) → Ended s k c.at c.end c.delimited next.at → Says s k least levels c (Ok (head.End tag vr next))
       by_kind elements e = e
       by_kind items e = e
 
@@ -178,14 +181,14 @@ module _ (s : List ℕ) (kind : Kind) (least levels : ℕ) (c : Cursor) where
       by-test _ _ _
       (λ d. by-test _ _ _ (λ e. by-test _ _ _
       (λ z. ends tag 0 (moved c (c.at + 8)) (marked d refl p (b ∙ rw (eqb-true tag (delimiter_of kind) e, eqb-true len 0 z))))
-      (λ _. refuses 5)) (λ _. refuses 5))
-      (λ _. refuses 5)
+      (λ _. refuses NotDue)) (λ _. refuses NotDue))
+      (λ _. refuses NotDue)
 
-  header-says : (h : Head) → (c.at + 8 ≤ c.end → Says s kind least levels c h) → Says s kind least levels c (header_by c h)
+  header-says : (h : Result Head Fault) → (c.at + 8 ≤ c.end → Says s kind least levels c h) → Says s kind least levels c (header_by c h)
   unfolding header_by
   header-says h q =
-      by-test _ _ _ (λ e. by-test _ _ _ (λ _. refuses 1) (λ d. ends 0 0 c (reached d (eqb-true c.at c.end e) refl)))
-      (λ _. by-test _ _ _ (λ _. refuses 1) (λ k. q (omega (arith, ltb-false (c.end - c.at) 8 k))))
+      by-test _ _ _ (λ e. by-test _ _ _ (λ _. refuses CutShort) (λ d. ends 0 0 c (reached d (eqb-true c.at c.end e) refl)))
+      (λ _. by-test _ _ _ (λ _. refuses CutShort) (λ k. q (omega (arith, ltb-false (c.end - c.at) 8 k))))
 
 module _ (s : List ℕ) (c : Cursor) (least levels tag vr : ℕ) (good : Tagged least tag) (known : form_of vr ≡ 0 → ⊥) where
   nested-says : (v : Cursor) → ((vr ≡ SQ → levels ≡ 0 → ⊥) → Element s c least levels tag vr v)
@@ -273,7 +276,7 @@ module _ (s : List ℕ) (bytes : IsBytes s) where
         vr : ℕ
         vr = vr_at s (c.at + 4)
 
-        by_size : (k : ℕ) → header_size vr ≡ k → (h : ℕ → Head) → Says s elements least levels c (h (header_size vr))
+        by_size : (k : ℕ) → header_size vr ≡ k → (h : ℕ → Result Head Fault) → Says s elements least levels c (h (header_size vr))
             → Says s elements least levels c (h k)
         by_size k e h x = subst (λ (n : ℕ). Says s elements least levels c (h n)) e x
 
@@ -309,7 +312,7 @@ module _ (s : List ℕ) (bytes : IsBytes s) where
         (λ o. by-test s items least levels c _ _ _ (λ _. tt)
         (λ m. let fit : len ≤ c.end - (c.at + 8) = ltb-false (c.end - (c.at + 8)) len m in
         let odd : len % 2 ≡ 1 → ⊥ = eqb-false (len % 2) 1 o in
-        let it : Says s items least levels c (head.Header item_tag 0 (cursor (c.at + 8) (c.at + 8 + len) false)) =
+        let it : Says s items least levels c (Ok (head.Header item_tag 0 (cursor (c.at + 8) (c.at + 8 + len) false))) =
         record {
           tagged = refl;
           plain = refl;

@@ -6,6 +6,7 @@ use mathlib.Core.List.{List}
 use mathlib.Core.Bool.{false}
 use lib.ListN.{length}
 use Rattle.basics.specs.Bytes.{IsBytes}
+use Rattle.dataset.specs.declared.Fault.{Fault}
 use Rattle.dataset.specs.Header.{cursor}
 use Rattle.dataset.specs.Reading.{Run, done, refused, elements_at, depths, refused_at, read, whole, reading_of}
 use Rattle.dataset.proofs.Whole.{reading_small}
@@ -14,15 +15,15 @@ use Rattle.grammar.specs.Claims.{Unspelt, Refusals}
 use Rattle.grammar.proofs.Sound.{sound}
 use Rattle.grammar.proofs.Complete.{complete}
 
-unspelt : (s : List ℕ) (code offset : ℕ) → reading_of s ≡ refused_at code offset → Unspelt s
-unspelt s code offset r t h e =
-    let a : refused_at code offset ≡ read (tree_rows t) = sym r ∙ ap reading_of (sym e) ∙ sound t h in
+unspelt : (s : List ℕ) (fault : Fault) (offset : ℕ) → reading_of s ≡ refused_at fault offset → Unspelt s
+unspelt s fault offset r t h e =
+    let a : refused_at fault offset ≡ read (tree_rows t) = sym r ∙ ap reading_of (sym e) ∙ sound t h in
     let z : ◌≡◌ {A = ℕ} 0 1 = cc in
     omega arith
 
 by-run : (s : List ℕ) → IsBytes s → Unspelt s → (o : Run) → reading_of s ≡ whole o
-    → (code : ℕ) × ((offset : ℕ) × (reading_of s ≡ refused_at code offset))
-by-run s bytes u (refused code offset) e = (code, (offset, e))
+    → (fault : Fault) × ((offset : ℕ) × (reading_of s ≡ refused_at fault offset))
+by-run s bytes u (refused fault offset) e = (fault, (offset, e))
 by-run s bytes u (done stop next rows) e = let c = complete s bytes rows e in absurd (u c.tree c.valid c.bytes)
 
 pub refusals : (s : List ℕ) → Refusals s

@@ -7,8 +7,10 @@ use mathlib.Core.List.{List, [], ◌∷◌, map}
 use Rattle.basics.specs.Bytes.{le16, le}
 use Rattle.basics.specs.Vr.{listed, form_of, US, UN, SQ}
 use Rattle.basics.specs.Tags.{item_tag}
+use Rattle.dataset.specs.declared.Fault.TheVariants.{CutShort, NotAscending, OddLength, NotDue}
 use Rattle.dataset.specs.Header.{when, header_by, delimiter_by, nested_by, defined_by, long_by, typed_at, tagged_at, sized_by, member_at}
-use Rattle.dataset.specs.Reading.{Row, row, level, value_run, refused_at, read, reading_of}
+use Rattle.dataset.specs.declared.Row.{Row}
+use Rattle.dataset.specs.Reading.{row, level, value_run, refused_at, read, reading_of}
 use Rattle.dataset.specs.Tree.{elements}
 use Rattle.grammar.specs.Grammar.{Forest, none, element, sequence, item, defined, undefined}
 use Rattle.grammar.specs.Grammar.{tag_bytes, element_header, header_size, item_header, length_in, closing, spell, count, rows_at, tree_rows}
@@ -75,6 +77,6 @@ refusals : map reading_of (
     ∷ (0x28 ∷ 0 ∷ 0x10 ∷ 0 ∷ 0x55 ∷ 0x53 ∷ 3 ∷ 0 ∷ 2 ∷ 0 ∷ [])
     ∷ (0xFE ∷ 0xFF ∷ 0 ∷ 0xE0 ∷ 0 ∷ 0 ∷ 0 ∷ 0 ∷ [])
     ∷ (0 ∷ 0x52 ∷ 0x29 ∷ 0x92 ∷ 0x53 ∷ 0x51 ∷ 0 ∷ 0 ∷ 0xFF ∷ 0xFF ∷ 0xFF ∷ 0xFF ∷ 0xFE ∷ 0xFF ∷ 0xDD ∷ 0xE0 ∷ 2 ∷ 0 ∷ 0 ∷ 0 ∷ []) ∷ [])
-    ≡ refused_at 1 0 ∷ refused_at 2 10 ∷ refused_at 4 0 ∷ refused_at 5 0 ∷ refused_at 5 12 ∷ []
+    ≡ refused_at CutShort 0 ∷ refused_at NotAscending 10 ∷ refused_at OddLength 0 ∷ refused_at NotDue 0 ∷ refused_at NotDue 12 ∷ []
 unfolding le16 listed form_of when header_by delimiter_by nested_by defined_by long_by typed_at tagged_at sized_by member_at level value_run reading_of
 refusals = refl

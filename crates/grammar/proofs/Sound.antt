@@ -7,6 +7,8 @@ use borrow.Author.Tests.{eq-eqb, le-ltb}
 use mathlib.Core.List.{List, [], ◌∷◌, ◌++◌, append_assoc, append-nil}
 use lib.ListN.{length, drop, length-append}
 use lib.Seq.{drop_at, drop-drop}
+use Rattle.std.specs.Prelude.{Result, Ok}
+use Rattle.dataset.specs.declared.Fault.{Fault}
 use Rattle.dataset.specs.declared.Cursor.{Cursor}
 use Rattle.dataset.specs.declared.Head.{Head}
 use Rattle.dataset.specs.declared.Head.TheVariants as head
@@ -15,7 +17,8 @@ use Rattle.basics.specs.Tags.{item_tag, item_delimiter, sequence_delimiter}
 use Rattle.basics.specs.Limits.{largest}
 use Rattle.dataset.specs.Header.{when, cursor, header_by}
 use Rattle.dataset.specs.Tree.{Kind, elements, items}
-use Rattle.dataset.specs.Reading.{Row, row, Run, done, level, value_run, elements_at, whole, reading_of, depths}
+use Rattle.dataset.specs.declared.Row.{Row}
+use Rattle.dataset.specs.Reading.{row, Run, done, level, value_run, elements_at, whole, reading_of, depths}
 use Rattle.dataset.proofs.Level.{level-on, level-end, value-plain, value-items}
 use Rattle.grammar.specs.Grammar.{Extent, defined, undefined, Forest, none, element, sequence, item}
 use Rattle.grammar.specs.Grammar.{element_header, header_size, item_header, length_in, closing, spell, Valid, count}
@@ -106,7 +109,7 @@ delimiter_of items = sequence_delimiter
 -- The container closes at `stop`, and what follows it is at `next`.
 abbrev Closes : Kind → ℕ → List ℕ → ℕ → Bool → ℕ → ℕ → Type 0
 Closes kind levels t end d stop next = (least : ℕ) → (tag : ℕ) ×
-    (head_of kind levels t end d stop least ≡ head.End tag 0 (cursor next end d))
+    (head_of kind levels t end d stop least ≡ Ok (head.End tag 0 (cursor next end d)))
 
 known-end : (kind : Kind) (levels : ℕ) (t : List ℕ) (end : ℕ) → Closes kind levels t end false end end
 unfolding header_by when
@@ -132,10 +135,10 @@ closes items levels t undefined start size end more here fits = λ least.
 past : (t : List ℕ) (at n : ℕ) (xs ys : List ℕ) → drop at t ≡ xs ++ ys → length xs ≡ n → drop (at + n) t ≡ ys
 past t at n xs ys here e = sym (drop-drop n at t) ∙ ap (λ (l : List ℕ). drop n l) here ∙ drop_at xs ys n e
 
-module _ (at_head : ℕ → ℕ → Head) (inside : ℕ → ℕ → Cursor → Run) (depth first end : ℕ) (o : Run) where
+module _ (at_head : ℕ → ℕ → Result Head Fault) (inside : ℕ → ℕ → Cursor → Run) (depth first end : ℕ) (o : Run) where
   -- One turn, and what the turns after it come to.
   step : (turns at least : ℕ) (before : List Row) (tag vr : ℕ) (v : Cursor) (stop next : ℕ) (low : List Row) (r : Row)
-      → at_head at least ≡ head.Header tag vr v → inside (first + length before + 1) vr v ≡ done stop next low
+      → at_head at least ≡ Ok (head.Header tag vr v) → inside (first + length before + 1) vr v ≡ done stop next low
       → row tag vr depth v.at (stop - v.at) (length low) first ≡ r
       → at < next → at ≤ end → end < at + turns
       → ((more : ℕ) → end < next + more → level at_head inside depth first more next (tag + 1) (before ++ (r ∷ low)) ≡ o)

@@ -1,10 +1,12 @@
 -- Reading is the inverse of spelling: what spells a data set reads as its rows, what reads well spells a data set, no two data sets are
--- spelt alike, and bytes within the size limit that spell none are refused. With which code and at which offset is in Places.antt.
+-- spelt alike, and bytes within the size limit that spell none are refused. With which fault and at which offset is in Places.antt.
 use Rattle.std.specs.Prelude.{◌≡◌, ℕ, ◌≤◌, List, length}
 use Rattle.basics.specs.Bytes.{IsBytes}
 use Rattle.basics.specs.Limits.{largest}
+use Rattle.dataset.specs.declared.Fault.{Fault}
 use Rattle.dataset.specs.Tree.{elements}
-use Rattle.dataset.specs.Reading.{Row, refused_at, read, reading_of}
+use Rattle.dataset.specs.declared.Row.{Row}
+use Rattle.dataset.specs.Reading.{refused_at, read, reading_of}
 use Rattle.grammar.specs.Grammar.{Forest, spell, DataSet, tree_rows}
 
 -- What spells a data set is bytes, and reads as its rows.
@@ -35,5 +37,5 @@ Unspelt s = (t : Forest elements) → DataSet t → spell t ≡ s → ⊥
 
 -- Bytes within the limit are refused exactly if no data set spells them.
 pub record Refusals (s : List ℕ) : Type 0 where
-  pub refused : IsBytes s → length s ≤ largest → Unspelt s → (code : ℕ) × ((offset : ℕ) × (reading_of s ≡ refused_at code offset))
-  pub only : (code offset : ℕ) → reading_of s ≡ refused_at code offset → Unspelt s
+  pub refused : IsBytes s → length s ≤ largest → Unspelt s → (fault : Fault) × ((offset : ℕ) × (reading_of s ≡ refused_at fault offset))
+  pub only : (fault : Fault) (offset : ℕ) → reading_of s ≡ refused_at fault offset → Unspelt s

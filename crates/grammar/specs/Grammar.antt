@@ -5,7 +5,8 @@ use Rattle.basics.specs.Bytes.{IsBytes, le}
 use Rattle.basics.specs.Vr.{form_of, SQ}
 use Rattle.basics.specs.Tags.{item_tag, item_delimiter, sequence_delimiter, item_group}
 use Rattle.basics.specs.Limits.{largest}
-use Rattle.dataset.specs.Reading.{Row, row}
+use Rattle.dataset.specs.declared.Row.{Row}
+use Rattle.dataset.specs.Reading.{row}
 use Rattle.dataset.specs.Tree.{Kind, elements, items}
 
 -- ---- Trees

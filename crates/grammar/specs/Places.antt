@@ -1,4 +1,4 @@
--- Which code a refusal has, and which offset, without a walk along the bytes: where headers stand in bytes that are perhaps no data
+-- Which fault a refusal names, and which offset, without a walk along the bytes: where headers stand in bytes that are perhaps no data
 -- set, and the first check that applies to one (dataset/specs/Header.antt, document 01's "Checks at a header").
 --
 -- A header stands at the start of the bytes; after members that are spelt right where one stands; and inside a sequence or an item whose
@@ -8,8 +8,9 @@ use Rattle.basics.specs.Bytes.{IsBytes}
 use Rattle.basics.specs.Vr.{SQ}
 use Rattle.basics.specs.Tags.{item_tag}
 use Rattle.basics.specs.Limits.{largest}
+use Rattle.std.specs.Prelude.{Result, Err}
+use Rattle.dataset.specs.declared.Fault.{Fault}
 use Rattle.dataset.specs.declared.Head.{Head}
-use Rattle.dataset.specs.declared.Head.TheVariants as head
 use Rattle.dataset.specs.Header.{cursor, element_at, item_at}
 use Rattle.dataset.specs.Reading.{refused_at, reading_of}
 use Rattle.dataset.specs.Tree.{Kind, elements, items}
@@ -55,21 +56,21 @@ pub data Stands (s : List ℕ) : Kind → ℕ → ℕ → ℕ → Bool → ℕ �
       → Stands s elements depth (at + 8) (inner_end extent (at + 8) size end) (inner_mark extent) 0
 
 -- What is at an offset among elements or items; `levels` is how many levels are permitted below.
-abbrev pub head_of : Kind → ℕ → List ℕ → ℕ → Bool → ℕ → ℕ → Head
+abbrev pub head_of : Kind → ℕ → List ℕ → ℕ → Bool → ℕ → ℕ → Result Head Fault
 head_of elements levels s end d at least = element_at s (cursor at end d) least levels
 head_of items levels s end d at least = item_at s (cursor at end d)
 
--- A header stands at the offset, and a check gives it the code.
-pub record RefusedThere (s : List ℕ) (code offset : ℕ) : Type 0 where
+-- A header stands at the offset, and a check finds the fault.
+pub record RefusedThere (s : List ℕ) (fault : Fault) (offset : ℕ) : Type 0 where
   pub kind : Kind
   pub depth : ℕ
   pub end : ℕ
   pub delimited : Bool
   pub least : ℕ
   pub stands : Stands s kind depth offset end delimited least
-  pub refuses : head_of kind (8 - depth) s end delimited offset least ≡ head.Refused code
+  pub refuses : head_of kind (8 - depth) s end delimited offset least ≡ Err fault
 
--- Reading refuses with a code at an offset exactly if a header stands there that a check gives the code.
+-- Reading refuses with a fault at an offset exactly if a header stands there in which a check finds the fault.
 pub record Places (s : List ℕ) : Type 0 where
-  pub there : IsBytes s → (code offset : ℕ) → reading_of s ≡ refused_at code offset → RefusedThere s code offset
-  pub only : length s ≤ largest → (code offset : ℕ) → RefusedThere s code offset → reading_of s ≡ refused_at code offset
+  pub there : IsBytes s → (fault : Fault) (offset : ℕ) → reading_of s ≡ refused_at fault offset → RefusedThere s fault offset
+  pub only : length s ≤ largest → (fault : Fault) (offset : ℕ) → RefusedThere s fault offset → reading_of s ≡ refused_at fault offset

@@ -1,7 +1,7 @@
 -- No ID stands twice exactly if none is among those that follow it, and exactly if none is marked already when it is reached: the marks are
 -- those of the items before.
 use mathlib.Core.Path.{◌≡◌, refl, sym}
-use Prim.Native.Nat.{ℕ, zero, suc, ◌≤◌, ◌<◌}
+use Prim.Native.Nat.{ℕ, zero, suc, ◌<◌}
 use mathlib.Core.List.{List, [], ◌∷◌}
 use mathlib.Core.Bool.{Bool, true, false, not, ◌&&◌, and-false, and_assoc}
 use lib.ListN.{length, get_or, set, replicate, length-replicate}
@@ -13,34 +13,13 @@ use Rattle.node.proofs.Walks.{members-end, members-next}
 use Rattle.rules.specs.Frame.{is_in, unique, unique_ids}
 use Rattle.ids.specs.Internal.{AllZero, id_of, ids_of}
 
--- ---- An ID among those of the items that are left
+-- ---- Along members
 
-module _ (ns : List Node) (id at to : ℕ) where
-  pub among-end : to ≤ at → is_in id (ids_of ns (members ns at to)) ≡ false
-  among-end h = rw (members-end ns at to h)
+pub ruleset members_along = (members-end, members-next)
 
-  pub among-here : at < to → id_of ns at ≡ id → is_in id (ids_of ns (members ns at to)) ≡ true
-  among-here h q = rw (members-next ns at to h, eq-eqb id (id_of ns at) (sym q))
-
-  pub among_later : at < to → (id_of ns at ≡ id → ⊥)
-      → is_in id (ids_of ns (members ns at to)) ≡ is_in id (ids_of ns (members ns (next_node ns at) to))
-  among_later h q = rw (members-next ns at to h, ne_eqb id (id_of ns at) (λ e. q (sym e)))
-
--- ---- No ID twice
-
-module _ (ns : List Node) (at to : ℕ) where
-  pub unique-end : to ≤ at → unique_ids ns (members ns at to) ≡ true
-  unfolding unique_ids unique
-  unique-end h = rw (members-end ns at to h)
-
-  module _ (id next : ℕ) (e : id ≡ id_of ns at) (n : next ≡ next_node ns at) (h : at < to) where
-    pub unique-twice : is_in id (ids_of ns (members ns next to)) ≡ true → unique_ids ns (members ns at to) ≡ false
-    unfolding unique_ids unique
-    unique-twice q = rw (members-next ns at to h, ← e, ← n, q)
-
-    pub unique-later : is_in id (ids_of ns (members ns next to)) ≡ false → unique_ids ns (members ns at to) ≡ unique_ids ns (members ns next to)
-    unfolding unique_ids unique
-    unique-later q = rw (members-next ns at to h, ← e, ← n, q)
+pub among_later : (ns : List Node) (id at to : ℕ) → at < to → (id_of ns at ≡ id → ⊥)
+    → is_in id (ids_of ns (members ns at to)) ≡ is_in id (ids_of ns (members ns (next_node ns at) to))
+among_later ns id at to h q = rw (members-next ns at to h, ne_eqb id (id_of ns at) (λ e. q (sym e)))
 
 -- ---- Marks
 
@@ -91,24 +70,24 @@ unfolding clear
 clear-set marks x [] h = refl
 clear-set marks x (y ∷ l) h = clear-by marks x y l (eqb x y) refl h (clear-set marks x l h)
 
-module _ (ns : List Node) (marks : List ℕ) (at to : ℕ) where
-  pub fresh_start : ((k : ℕ) → get_or marks k 0 ≡ 0) → fresh marks (ids_of ns (members ns at to)) ≡ unique_ids ns (members ns at to)
+module _ (ns : List Node) (marks is : List ℕ) where
+  pub fresh_start : ((k : ℕ) → get_or marks k 0 ≡ 0) → fresh marks (ids_of ns is) ≡ unique_ids ns is
   unfolding unique_ids fresh
-  fresh_start h = rw (clear-all marks (ids_of ns (members ns at to)) h)
+  fresh_start h = rw (clear-all marks (ids_of ns is) h)
 
-  pub fresh-end : to ≤ at → fresh marks (ids_of ns (members ns at to)) ≡ true
+  pub fresh-end : is ≡ [] → fresh marks (ids_of ns is) ≡ true
   unfolding unique fresh clear
-  fresh-end h = rw (members-end ns at to h)
+  fresh-end h = rw h
 
-  module _ (id : ℕ) (e : id ≡ id_of ns at) (h : at < to) where
-    pub fresh-marked : (get_or marks id 0 ≡ 0 → ⊥) → fresh marks (ids_of ns (members ns at to)) ≡ false
+  module _ (id item : ℕ) (rest : List ℕ) (e : id ≡ id_of ns item) (h : is ≡ item ∷ rest) where
+    pub fresh-marked : (get_or marks id 0 ≡ 0 → ⊥) → fresh marks (ids_of ns is) ≡ false
     unfolding fresh clear
-    fresh-marked q = rw (members-next ns at to h, ← e, ne_eqb (get_or marks id 0) 0 q)
+    fresh-marked q = rw (h, ← e, ne_eqb (get_or marks id 0) 0 q)
 
-    pub fresh-later : id < length marks → get_or marks id 0 ≡ 0
-        → fresh (set marks id 1) (ids_of ns (members ns (next_node ns at) to)) ≡ fresh marks (ids_of ns (members ns at to))
+    pub fresh-later : id < length marks → get_or marks id 0 ≡ 0 → fresh (set marks id 1) (ids_of ns rest) ≡ fresh marks (ids_of ns is)
     unfolding unique fresh clear
     fresh-later b q =
-        rw (members-next ns at to h, ← e, q, clear-set marks id (ids_of ns (members ns (next_node ns at) to)) b)
-        (and_assoc (clear marks (ids_of ns (members ns (next_node ns at) to))) (not (is_in id (ids_of ns (members ns (next_node ns at) to))))
-        (unique (ids_of ns (members ns (next_node ns at) to))))
+        rw (h, ← e, q, clear-set marks id (ids_of ns rest) b)
+        (and_assoc (clear marks (ids_of ns rest)) (not (is_in id (ids_of ns rest))) (unique (ids_of ns rest)))
+
+pub ruleset marks_along = (fresh_start, fresh-end)

@@ -1,4 +1,4 @@
--- TO_LINEAR items along members, one at a time; grades by their parts; the count of entries.
+-- TO_LINEAR items along members, one at a time; grades by their parts.
 use mathlib.Core.Path.{◌≡◌, refl, sym, ap, ◌∙◌}
 use Prim.Native.Nat.{ℕ, ◌≤◌, ◌<◌}
 use native.Mathlib.Omega.{arith}
@@ -6,12 +6,11 @@ use borrow.Author.Tests.{lt-leb}
 use lib.ListN.{length}
 use mathlib.Core.List.{List, [], ◌∷◌}
 use mathlib.Core.Bool.{true, false}
-use lib.Dec.{eqb}
-use Rattle.basics.specs.Bytes.{le16}
 use Rattle.node.specs.Nodes.{Node, next_node, members}
 use Rattle.node.proofs.Walks.{members-end, members-next}
 use Rattle.element.specs.Elements.{every}
-use Rattle.rules.specs.Intensity.{is_linear, linear_among, entry_count, has_lut, are_luts}
+use Rattle.rules.specs.Intensity.{is_linear, linear_among, has_lut, are_luts}
+use Rattle.intensity.specs.declared.Grade.TheVariants.{Broken, Plain, Log}
 use Rattle.intensity.specs.Internal.{luts_of, Stops}
 
 module _ (ns : List Node) (i to : ℕ) where
@@ -28,19 +27,19 @@ module _ (ns : List Node) (i to : ℕ) where
   linear-later h e = rw (members-next ns i to h, e)
 
 module _ (ns : List Node) where
-  pub luts-none : luts_of ns [] ≡ 1
+  pub luts-none : luts_of ns [] ≡ Plain
   unfolding luts_of are_luts every
   luts-none = refl
 
-  pub luts-two : (j k : ℕ) (js : List ℕ) → luts_of ns (j ∷ k ∷ js) ≡ 0
+  pub luts-two : (j k : ℕ) (js : List ℕ) → luts_of ns (j ∷ k ∷ js) ≡ Broken
   unfolding luts_of are_luts every
   luts-two j k js = rw (lt-leb (length (j ∷ k ∷ js)) 1 (omega arith))
 
-  pub luts-yes : (j : ℕ) → has_lut ns j ≡ true → luts_of ns (j ∷ []) ≡ 2
+  pub luts-yes : (j : ℕ) → has_lut ns j ≡ true → luts_of ns (j ∷ []) ≡ Log
   unfolding luts_of are_luts every
   luts-yes j e = rw e
 
-  pub luts-no : (j : ℕ) → has_lut ns j ≡ false → luts_of ns (j ∷ []) ≡ 0
+  pub luts-no : (j : ℕ) → has_lut ns j ≡ false → luts_of ns (j ∷ []) ≡ Broken
   unfolding luts_of are_luts every
   luts-no j e = rw e
 
@@ -56,13 +55,6 @@ module _ (ns : List Node) (from to k : ℕ) (at : Stops ns from to k) where
     pub only : to ≤ other → linear_among ns (members ns from to) ≡ k ∷ []
     only h = rest ∙ ap (λ (l : List ℕ). k ∷ l) (linear-end ns other to h)
 
-    pub luts-more : other < to → luts_of ns (linear_among ns (members ns from to)) ≡ 0
+    pub luts-more : other < to → luts_of ns (linear_among ns (members ns from to)) ≡ Broken
     luts-more h = rw (rest, linear-here ns other to h (later.stands h))
         (luts-two ns k other (linear_among ns (members ns (next_node ns other) to)))
-
--- How many entries a descriptor says.
-pub count-zero : (d : List ℕ) → le16 d 0 ≡ 0 → entry_count d ≡ 65536
-count-zero d e = rw e
-
-pub count-some : (d : List ℕ) (n : ℕ) → n ≡ le16 d 0 → eqb n 0 ≡ false → entry_count d ≡ n
-count-some d n e h = rw (← e, h)

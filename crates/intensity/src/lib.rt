@@ -3,34 +3,33 @@
 
 ghost use Rattle.std.specs.Prelude.{◌≡◌, ◌≤◌, ◌<◌, length};
 ghost use Rattle.node.specs.Nodes.{nodes_of, members};
-ghost use Rattle.node.specs.Internal.{Table};
 ghost use Rattle.rules.specs.Intensity.{is_linear, linear_among, entry_count, is_lut, has_lut};
 ghost use Rattle.intensity.specs.Internal.{grades_agree, relation_of, luts_of, table_of, relation_in, table_in, Stops};
 
 use basics::{tags, u16_at, vrs};
-use value::Num;
+use node::DataSet;
 
 // ---- The TO_LINEAR items
 
-fn is_linear(bytes: &[u8], rows: &[u32], item: usize) -> bool
-    requires { Table bytes.now rows.now × (item < length (nodes_of bytes.now)) }
-    ensures { result ≡ is_linear (nodes_of bytes.now) item }
+#[tactic(auto, unfolding(rules::specs::Intensity::is_linear))]
+fn is_linear(set: &DataSet, item: usize) -> bool
+    requires { item < length (nodes_of set.now) }
+    ensures { result ≡ is_linear (nodes_of set.now) item }
 {
-    element::is_cs_item(bytes, rows, item, tags::LUT_FUNCTION, b"TO_LINEAR")
+    element::is_cs_item(set, item, tags::LUT_FUNCTION, b"TO_LINEAR")
 }
 
 // The first TO_LINEAR item from `from` up to `to`; if there is none, a number not below `to`.
-pub fn next_linear(bytes: &[u8], rows: &[u32], from: usize, to: usize) -> usize
-    requires { Table bytes.now rows.now × (to ≤ length (nodes_of bytes.now)) }
-    ensures { Stops (nodes_of bytes.now) from to result }
+pub fn next_linear(set: &DataSet, from: usize, to: usize) -> usize
+    requires { to ≤ length (nodes_of set.now) }
+    ensures { Stops (nodes_of set.now) from to result }
 {
     let mut j = from;
     while j < to {
-        if is_linear(bytes, rows, j) {
+        if is_linear(set, j) {
             return j;
-        } else {
-            j = node::next(bytes, rows, j);
         }
+        j = set.next(j);
     }
     j
 }
@@ -46,125 +45,121 @@ pub fn entry_count(descriptor: &[u8]) -> usize
 }
 
 // A descriptor of three numbers, the last 16, and two bytes for each entry.
+#[tactic(auto, unfolding(rules::specs::Intensity::is_lut))]
 fn is_lut(descriptor: &[u8], table: &[u8]) -> bool
     ensures { result ≡ is_lut descriptor.now table.now }
 {
-    if descriptor.len() == 6 {
-        if u16_at(descriptor, 4) == 16 {
-            table.len() == 2 * entry_count(descriptor)
-        } else {
-            false
-        }
-    } else {
-        false
-    }
+    descriptor.len() == 6
+        && u16_at(descriptor, 4) == 16
+        && table.len() == 2 * entry_count(descriptor)
 }
 
-fn has_lut(bytes: &[u8], rows: &[u32], item: usize) -> bool
-    requires { Table bytes.now rows.now × (item < length (nodes_of bytes.now)) }
-    ensures { result ≡ has_lut (nodes_of bytes.now) item }
+#[tactic(auto, unfolding(rules::specs::Intensity::has_lut))]
+fn has_lut(set: &DataSet, item: usize) -> bool
+    requires { item < length (nodes_of set.now) }
+    ensures { result ≡ has_lut (nodes_of set.now) item }
 {
-    let Num::Is(d) = element::find_vr_item(bytes, rows, item, tags::LUT_DESCRIPTOR, vrs::US) else {
+    let Some(d) = element::find_vr_item(set, item, tags::LUT_DESCRIPTOR, vrs::US) else {
         return false;
     };
-    let Num::Is(t) = element::find_vr_item(bytes, rows, item, tags::LUT_DATA, vrs::OW) else {
+    let Some(t) = element::find_vr_item(set, item, tags::LUT_DATA, vrs::OW) else {
         return false;
     };
-    is_lut(node::value(bytes, rows, d), node::value(bytes, rows, t))
+    is_lut(set.value(d), set.value(t))
 }
 
 // ---- Grades of the two groups
 
+// What one of the two groups comes to: broken; sound, with nothing of LOG; sound, and the relationship LOG or the LUTs with the TO_LINEAR
+// item that LOG needs.
+#[derive(Clone, Copy, PartialEq, Eq)]
+pub enum Grade {
+    Broken,
+    Plain,
+    Log,
+}
+
 // The items from `from` up to `to`: at most one is TO_LINEAR, and it has its LUT.
-fn luts_of(bytes: &[u8], rows: &[u32], from: usize, to: usize) -> usize
-    requires { Table bytes.now rows.now × (to ≤ length (nodes_of bytes.now)) }
-    ensures { result ≡ luts_of (nodes_of bytes.now) (linear_among (nodes_of bytes.now) (members (nodes_of bytes.now) from to)) }
+fn luts_of(set: &DataSet, from: usize, to: usize) -> Grade
+    requires { to ≤ length (nodes_of set.now) }
+    ensures { result ≡ luts_of (nodes_of set.now) (linear_among (nodes_of set.now) (members (nodes_of set.now) from to)) }
 {
-    let k = next_linear(bytes, rows, from, to);
-    if k < to {
-        let after = node::next(bytes, rows, k);
-        let other = next_linear(bytes, rows, after, to);
-        if other < to {
-            0
-        } else {
-            if has_lut(bytes, rows, k) { 2 } else { 0 }
-        }
+    let k = next_linear(set, from, to);
+    if k >= to {
+        return Grade::Plain;
+    }
+    let after = set.next(k);
+    let other = next_linear(set, after, to);
+    if other < to {
+        return Grade::Broken;
+    }
+    if has_lut(set, k) {
+        Grade::Log
     } else {
-        1
+        Grade::Broken
     }
 }
 
-fn table_of(bytes: &[u8], rows: &[u32], group: usize) -> usize
-    requires { Table bytes.now rows.now × (group < length (nodes_of bytes.now)) }
-    ensures { result ≡ table_of (nodes_of bytes.now) group }
+fn table_of(set: &DataSet, group: usize) -> Grade
+    requires { group < length (nodes_of set.now) }
+    ensures { result ≡ table_of (nodes_of set.now) group }
 {
-    if node::vr(bytes, rows, group) == vrs::SQ {
-        let from = group + 1;
-        let to = node::next(bytes, rows, group);
-        if from < to {
-            luts_of(bytes, rows, from, to)
-        } else {
-            0
-        }
+    let from = group + 1;
+    let to = set.next(group);
+    if set.vr(group) == vrs::SQ && from < to {
+        luts_of(set, from, to)
     } else {
-        0
+        Grade::Broken
     }
 }
 
-fn relation_of(bytes: &[u8], rows: &[u32], group: usize) -> usize
-    requires { Table bytes.now rows.now × (group < length (nodes_of bytes.now)) }
-    ensures { result ≡ relation_of (nodes_of bytes.now) group }
+fn relation_of(set: &DataSet, group: usize) -> Grade
+    requires { group < length (nodes_of set.now) }
+    ensures { result ≡ relation_of (nodes_of set.now) group }
 {
-    match element::the_item(bytes, rows, group) {
-        Num::None => 0,
-        Num::Is(j) => {
-            if element::is_cs_item(bytes, rows, j, tags::PIXEL_INTENSITY_RELATIONSHIP, b"LOG") {
-                2
+    match element::the_item(set, group) {
+        None => Grade::Broken,
+        Some(j) => {
+            if element::is_cs_item(set, j, tags::PIXEL_INTENSITY_RELATIONSHIP, b"LOG") {
+                Grade::Log
             } else {
-                1
+                Grade::Plain
             }
         }
     }
 }
 
-// The grade of the relationship's group in an item; `otherwise` if the item has none.
-pub fn relation_in(bytes: &[u8], rows: &[u32], item: usize, otherwise: usize) -> usize
-    requires { Table bytes.now rows.now × (item < length (nodes_of bytes.now)) }
-    ensures { result ≡ relation_in (nodes_of bytes.now) item otherwise }
+// The grade of the relationship's group in an item; `otherwise` if the item has none. One function for this and `table_in` would take the
+// tag and the grade's function besides, and be no shorter.
+#[tactic(auto, unfolding(crate::specs::Internal::relation_in))]
+pub fn relation_in(set: &DataSet, item: usize, otherwise: Grade) -> Grade
+    requires { item < length (nodes_of set.now) }
+    ensures { result ≡ relation_in (nodes_of set.now) item otherwise }
 {
-    match node::find_in_item(
-        bytes,
-        rows,
-        item,
-        tags::FRAME_PIXEL_DATA_PROPERTIES_SEQUENCE,
-    ) {
-        Num::None => otherwise,
-        Num::Is(g) => relation_of(bytes, rows, g),
+    match set.find_in_item(item, tags::FRAME_PIXEL_DATA_PROPERTIES_SEQUENCE) {
+        None => otherwise,
+        Some(g) => relation_of(set, g),
     }
 }
 
-pub fn table_in(bytes: &[u8], rows: &[u32], item: usize, otherwise: usize) -> usize
-    requires { Table bytes.now rows.now × (item < length (nodes_of bytes.now)) }
-    ensures { result ≡ table_in (nodes_of bytes.now) item otherwise }
+#[tactic(auto, unfolding(crate::specs::Internal::table_in))]
+pub fn table_in(set: &DataSet, item: usize, otherwise: Grade) -> Grade
+    requires { item < length (nodes_of set.now) }
+    ensures { result ≡ table_in (nodes_of set.now) item otherwise }
 {
-    match node::find_in_item(
-        bytes,
-        rows,
-        item,
-        tags::PIXEL_INTENSITY_RELATIONSHIP_LUT_SEQUENCE,
-    ) {
-        Num::None => otherwise,
-        Num::Is(g) => table_of(bytes, rows, g),
+    match set.find_in_item(item, tags::PIXEL_INTENSITY_RELATIONSHIP_LUT_SEQUENCE) {
+        None => otherwise,
+        Some(g) => table_of(set, g),
     }
 }
 
 // Whether the two grades of a frame agree.
-pub fn grades_agree(relation: usize, table: usize) -> bool
+pub fn grades_agree(relation: Grade, table: Grade) -> bool
     ensures { result ≡ grades_agree relation table }
 {
-    if 1 <= relation {
-        relation <= table
-    } else {
-        false
+    match relation {
+        Grade::Broken => false,
+        Grade::Plain => table != Grade::Broken,
+        Grade::Log => table == Grade::Log,
     }
 }

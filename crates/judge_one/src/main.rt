@@ -4,27 +4,18 @@
 
 mod sentence;
 
-use conformance::JudgeAnswer;
+use conformance::Outcome;
+use dataset::ReadError;
 use judge_small::Located;
-use printing::print_field;
 use room::input;
 use std::io;
 use std::io::Write;
 
 fn print_accepted<W: Write>(to: &mut W, rows: usize) -> io::Result<()> {
-    print_field(to, b"accepted\ncode 0 rows", rows)?;
-    to.write_all(b"\n")
+    writeln!(to, "accepted\ncode 0 rows {rows}")
 }
 
-// The frame's item in the data set, and its row; nothing if the rule does not concern a single frame.
-fn print_item<W: Write>(to: &mut W, frame: usize, row: usize) -> io::Result<()> {
-    if row == 0 {
-        return Ok(());
-    }
-    print_field(to, b", item", frame)?;
-    print_field(to, b" of (5200,9230), row", row)
-}
-
+// The frame's item in the data set and its row are left out if the rule does not concern a single frame.
 fn print_broken<W: Write>(
     to: &mut W,
     rows: usize,
@@ -32,28 +23,25 @@ fn print_broken<W: Write>(
     frame: usize,
     row: usize,
 ) -> io::Result<()> {
-    print_field(to, b"refused\ncode 9 rule", rule)?;
-    print_field(to, b" frame", frame)?;
-    print_field(to, b" rows", rows)?;
-    print_item(to, frame, row)?;
-    to.write_all(b"\n")?;
+    write!(to, "refused\ncode 9 rule {rule} frame {frame} rows {rows}")?;
+    if row != 0 {
+        write!(to, ", item {frame} of (5200,9230), row {row}")?;
+    }
+    writeln!(to)?;
     sentence::print_sentence(to, rule)
 }
 
-fn print_unread<W: Write>(to: &mut W, code: usize, offset: usize) -> io::Result<()> {
-    print_field(to, b"refused\ncode", code)?;
-    print_field(to, b" place", offset)?;
-    to.write_all(b"\n")
+fn print_unread<W: Write>(to: &mut W, error: ReadError) -> io::Result<()> {
+    writeln!(to, "refused")?;
+    rowprint::print_error(to, error)
 }
 
 fn print_answer<W: Write>(to: &mut W, located: Located) -> io::Result<()> {
     let answer = located.answer;
     match answer {
-        JudgeAnswer::Accepted(rows) => print_accepted(to, rows),
-        JudgeAnswer::Broken(rows, rule, frame) => print_broken(to, rows, rule, frame, located.row),
-        JudgeAnswer::Refused(code, offset) => print_unread(to, code, offset),
-        JudgeAnswer::TooLarge => to.write_all(b"refused\ncode 7\n"),
-        JudgeAnswer::NoRoom => to.write_all(b"refused\ncode 8\n"),
+        Ok(Outcome::Accepted(rows)) => print_accepted(to, rows),
+        Ok(Outcome::Broken(rows, rule, frame)) => print_broken(to, rows, rule, frame, located.row),
+        Err(error) => print_unread(to, error),
     }
 }
 
@@ -62,8 +50,7 @@ fn main(rt: HostRuntime) -> io::Result<()> {
     let n = room::read_full(&mut rt.stdin(), &mut bytes)?;
     let mut to = rt.stdout();
     if room::MOST < n {
-        to.write_all(b"too long: at most 65536 bytes\n")?;
-        return Ok(());
+        return room::print_too_long(&mut to, room::MOST);
     }
     print_answer(&mut to, judge_small::judge_located(&bytes[..n]))
 }

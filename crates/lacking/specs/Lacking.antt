@@ -3,14 +3,12 @@
 -- lack nothing: they are drawn though they are not accepted, because no rule is built into the steps. The need "mask cells inside the
 -- picture" is not among them, since a neighbour is limited to the edge and cannot lie outside. The claim is `steps-lack`, in
 -- proofs/Lacking.antt; the prover computes every line.
-use Rattle.std.specs.Prelude.{ℕ, Bool, true, false, List, [], ◌∷◌, ◌++◌}
+use Rattle.std.specs.Prelude.{ℕ, Bool, true, false, List, [], ◌∷◌, ◌++◌, Option, Some, None}
 use Prim.Native.String.{String}
-use Rattle.std.proofs.Math.Option.{Option, none, some}
 use Rattle.basics.specs.Tags
 use Rattle.node.specs.Nodes.{nodes_of}
 use Rattle.conformance.specs.Judging.{judge_of, fields_of}
 use Rattle.steps.specs.Steps.{Picture, masked_cell, steps_of}
-use Rattle.value.specs.declared.Num.{Num}
 use Rattle.value.specs.Text.{ascii}
 use Rattle.window.specs.declared.Window.{Window}
 use Rattle.samples.specs.Objects.{two, short, long, sequence, item, masked_by}
@@ -39,10 +37,10 @@ stepped bytes frame picture =
 
 -- A data set that is drawn at a frame, native or masked, with these cells; and one that lacks something there.
 abbrev pub draws : List ℕ → ℕ → Bool → List ℕ → Case
-draws bytes frame masked cells = stepped bytes frame (some (record { masked = masked; samples = cells }))
+draws bytes frame masked cells = stepped bytes frame (Some (record { masked = masked; samples = cells }))
 
 abbrev pub lacks : List ℕ → ℕ → Case
-lacks bytes frame = stepped bytes frame none
+lacks bytes frame = stepped bytes frame None
 
 -- ---- The parts of a data set, as they should be: two frames of one row and two cells of 8 bits
 
@@ -185,5 +183,5 @@ lacking =
 
 -- A cell lacks something if it would divide by 0, whatever was read before it: a masked cell of frame 2, in any window, with no mask
 -- frame.
-abbrev pub cell_of_no_frame : Window → Num
+abbrev pub cell_of_no_frame : Window → Option ℕ
 cell_of_no_frame w = masked_cell one_cell (90 ∷ 91 ∷ []) 2 [] unmoved w false 0

@@ -1,9 +1,9 @@
 -- Demand 3 over drawing and mapping, proved: drawing is from `Rattle.display`; that the mapping lacks nothing is from Accepted and
 -- Maps; the rest follows what `linear` answers back to what it was asked.
+use Rattle.std.specs.Prelude.{Option, Some, None, Result, Ok, Err}
 use mathlib.Core.Path.{◌≡◌, refl, ap, ◌∙◌, subst}
 use mathlib.Core.Bool.{Bool, true, false, cond}
 use mathlib.Core.List.{List, ◌++◌}
-use mathlib.Core.Option.{Option, none, some}
 use Prim.Native.Nat.{ℕ, ◌≤◌}
 use native.Mathlib.Omega.{arith}
 use lib.ListN.{length, drop}
@@ -15,8 +15,6 @@ use Rattle.basics.specs.Bytes.{IsBytes}
 use Rattle.dataset.specs.Tree.{rows_of}
 use Rattle.node.specs.Nodes.{Node, nodes_of, root}
 use Rattle.element.specs.Frames.{frames_of}
-use Rattle.value.specs.declared.Num.{Num}
-use Rattle.value.specs.declared.Num.TheVariants.{Is, None}
 use Rattle.display.specs.Show.{is_frame_of, image_size}
 use Rattle.display.specs.Drawing.{IsAccepted, IsFrame, HasRoom}
 use Rattle.display.proofs.Codes.{was-frame, judged-accepted, was-judged}
@@ -24,8 +22,8 @@ use Rattle.display.proofs.Objects.{object}
 use Rattle.display.proofs.Small.{us-in-small}
 use Rattle.display.proofs.Lacking.{geometry-size}
 use Rattle.display.proofs.Drawing as display
-use Rattle.linear.specs.declared.LinearAnswer.{LinearAnswer}
-use Rattle.linear.specs.declared.LinearAnswer.TheVariants as linear
+use Rattle.linear.specs.declared.LinearError.{LinearError}
+use Rattle.linear.specs.declared.LinearError.TheVariants as error
 use Rattle.linear.specs.Mapping.{linear_for, is_present, has_linear_item, mapping_by, mapping_of}
 use Rattle.linear.specs.Answer.{entries_of, accepted_answer, answer_for as linear_from, linear_of, values_left, fields_of}
 use Rattle.linear.specs.Demand3.{Mapped, LinearBack, Demand3}
@@ -36,7 +34,7 @@ use Rattle.linear.proofs.Maps as maps
 
 module _ (s : List ℕ) (f : ℕ) (buffer values : List ℕ) where
   answer-mapped : (n : ℕ) → IsFrame s f → has_linear_item (nodes_of s) f ≡ true → HasRoom s buffer values
-      → accepted_answer (nodes_of s) f values n ≡ linear.Mapped n
+      → accepted_answer (nodes_of s) f values n ≡ Ok n
   unfolding accepted_answer
   answer-mapped n i m r =
       rw (
@@ -47,7 +45,7 @@ module _ (s : List ℕ) (f : ℕ) (buffer values : List ℕ) where
       )
 
   maps-to : (a : IsAccepted s) → IsFrame s f → has_linear_item (nodes_of s) f ≡ true → HasRoom s buffer values
-      → linear_of s f buffer values ≡ linear.Mapped (length (rows_of s))
+      → linear_of s f buffer values ≡ Ok (length (rows_of s))
   unfolding linear_of
   maps-to a i m r = rw (judged-accepted s buffer a r.rows, answer-mapped (length (rows_of s)) i m r)
 
@@ -64,7 +62,7 @@ module _ (s : List ℕ) (f : ℕ) (buffer values : List ℕ) where
   was-taken n e = go (is_frame_of (nodes_of s) f) (has_linear_item (nodes_of s) f) (leb (image_size (nodes_of s)) (length values)) refl refl refl e
     where
       go : (t m u : Bool) → is_frame_of (nodes_of s) f ≡ t → has_linear_item (nodes_of s) f ≡ m → leb (image_size (nodes_of s)) (length values) ≡ u
-          → (fields_of (cond t (cond m (cond u (linear.Mapped n) linear.NoValuesRoom) linear.NoItem) linear.NoFrame)).code ≡ 0 → Taken n
+          → (fields_of (cond t (cond m (cond u (Ok n) (Err error.NoValuesRoom)) (Err error.NoItem)) (Err error.NoFrame))).code ≡ 0 → Taken n
       go true true true p w q e =
           record { frame = was-frame s f p; item = w; cells = leb-true (image_size (nodes_of s)) (length values) q }
       go true true false p w q e = absurd (omega (arith, e))
@@ -76,13 +74,13 @@ module _ (s : List ℕ) (f : ℕ) (buffer values : List ℕ) where
   unfolding linear_of
   was-accepted e =
       let j = was-judged s buffer (λ a. (fields_of (linear_from (nodes_of s) f values a)).code)
-      (record { broken = λ n rule frame. refl; refused = λ code offset. refl; too_large = refl; no_room = refl }) e in
+      (record { refused = λ refusal. refl }) e in
       let d = was-taken (length j.accepted.rows) j.code in
       (j.accepted, (d.frame, (d.item, record { rows = j.room; cells = d.cells })))
 
   -- ---- What is handed back
 
-  entries-is : (l : List ℕ) → mapping_of (nodes_of s) f ≡ some l → entries_of (nodes_of s) f ≡ l
+  entries-is : (l : List ℕ) → mapping_of (nodes_of s) f ≡ Some l → entries_of (nodes_of s) f ≡ l
   unfolding entries_of
   entries-is l e = rw e
 
@@ -97,7 +95,7 @@ module _ (s : List ℕ) (f : ℕ) (buffer values : List ℕ) where
       record {
         l = w.l;
         is = w.is;
-        rows = ap (λ (x : LinearAnswer). (fields_of x).rows) (maps-to a i m r);
+        rows = ap (λ (x : Result ℕ LinearError). (fields_of x).rows) (maps-to a i m r);
         numbers =
             subst (λ (n : ℕ). values_left s f buffer values ≡ w.l ++ drop n values) w.size
             (subst (λ (x : List ℕ). values_left s f buffer values ≡ x ++ drop (length x) values) (entries-is w.l w.is)
@@ -107,12 +105,12 @@ module _ (s : List ℕ) (f : ℕ) (buffer values : List ℕ) where
 -- ---- The mapping lacks nothing
 
 -- The item that a frame has.
-item_of : (o : Option Num) → is_present o ≡ true → (j : ℕ) × (o ≡ some (Is j))
-item_of none e = absurd (false-is-true e)
-item_of (some None) e = absurd (false-is-true e)
-item_of (some (Is j)) e = (j, refl)
+item_of : (o : Option (Option ℕ)) → is_present o ≡ true → (j : ℕ) × (o ≡ Some (Some j))
+item_of None e = absurd (false-is-true e)
+item_of (Some None) e = absurd (false-is-true e)
+item_of (Some (Some j)) e = (j, refl)
 
-mapping-by : (ns : List Node) (f j : ℕ) → linear_for ns f ≡ some (Is j) → mapping_of ns f ≡ mapping_by ns f j
+mapping-by : (ns : List Node) (f j : ℕ) → linear_for ns f ≡ Some (Some j) → mapping_of ns f ≡ mapping_by ns f j
 unfolding mapping_of
 mapping-by ns f j e = rw e
 
@@ -121,7 +119,7 @@ unfolding has_linear_item
 lacks-nothing s b f a i m =
     let ns = nodes_of s in
     let o = object ns (λ tag k e. us-in-small s b tag k (root ns) e) a.sound in
-    let h : f ≤ o.n = subst (λ (x : Num). f ≤ number_or0 x) o.frames i.high in
+    let h : f ≤ o.n = subst (λ (x : Option ℕ). f ≤ number_or0 x) o.frames i.high in
     let j = item_of (linear_for ns f) m in
     let p = mappable s b a.sound o.n f j.0 o.frames i.low h j.1 (image_size ns) (omega arith) in
     let t = maps.by-mappable ns f j.0 (image_size ns) p in
@@ -134,7 +132,7 @@ demand-3 s b f =
     record {
       drawing = display.drawing s b f;
       mappable = lacks-nothing s b f;
-      mapped = λ buffer values a i m r. ap (λ (x : LinearAnswer). (fields_of x).code) (maps-to s f buffer values a i m r);
+      mapped = λ buffer values a i m r. ap (λ (x : Result ℕ LinearError). (fields_of x).code) (maps-to s f buffer values a i m r);
       nothing-else = was-accepted s f;
       as-mapped = λ buffer values e.
           let w = was-accepted s f buffer values e in

@@ -1,4 +1,6 @@
 -- The TO_LINEAR item by its search; places of entries; what a LUT that rule 39 lets pass has.
+use Rattle.std.specs.Prelude.{Some, None}
+use Rattle.std.specs.Bool.{then_some}
 use mathlib.Core.Path.{◌≡◌, refl, sym, ap, ◌∙◌}
 use mathlib.Core.Bool.{Bool, true, false, cond, ◌&&◌}
 use mathlib.Core.List.{List}
@@ -7,44 +9,38 @@ use native.Mathlib.Nat.{mul-le-mul}
 use native.Mathlib.Omega.{arith}
 use lib.ListN.{length}
 use lib.Dec.{eqb, ltb}
-use borrow.Author.Tests.{eqb-true, eqb-false, ltb-true, ltb-false, lt-ltb, le-ltb, le-leb}
+use borrow.Author.Tests.{eqb-true, eqb-false, ltb-true, ltb-false, le-leb}
 use Rattle.basics.specs.Bytes.{le16}
-use Rattle.value.specs.declared.Num.TheVariants.{Is, None}
 use Rattle.basics.proofs.Tests.{and_both}
 use Rattle.node.specs.Nodes.{Node, members}
 use Rattle.element.specs.Elements.{first}
 use Rattle.pixel.specs.declared.Geometry.{Geometry}
 use Rattle.pixel.specs.Pixel.{samples_of, sample_at, cell_at}
 use Rattle.pixel.specs.Internal.{Shaped}
-use Rattle.pixel.proofs.Laws.{sample-cell}
+use Rattle.pixel.proofs.Laws.{sample-cell, frame-facts, native-run, painted-more, painted-length}
 use Rattle.rules.specs.Intensity.{linear_among, entry_count, is_lut}
 use Rattle.intensity.specs.Internal.{Stops}
 use Rattle.intensity.proofs.Laws.{linear-here, no-linear}
+use Rattle.linear.specs.Internal.{MapReady}
 use Rattle.linear.specs.Mapping.{place_among, entry_place, entry_at, entry_of}
 
 -- ---- The first TO_LINEAR item
 
 module _ (ns : List Node) (from to k : ℕ) (at : Stops ns from to k) where
-  pub first-here : k < to → first (linear_among ns (members ns from to)) ≡ Is k
+  first-here : k < to → first (linear_among ns (members ns from to)) ≡ Some k
   first-here h = ap first (sym at.same ∙ linear-here ns k to h (at.stands h))
 
-  pub first-none : to ≤ k → first (linear_among ns (members ns from to)) ≡ None
+  first-none : to ≤ k → first (linear_among ns (members ns from to)) ≡ None
   first-none h = ap first (no-linear ns from to k at h)
 
+  pub first-is : then_some (ltb k to) k ≡ first (linear_among ns (members ns from to))
+  first-is = go (ltb k to) refl
+    where
+      go : (t : Bool) → ltb k to ≡ t → then_some t k ≡ first (linear_among ns (members ns from to))
+      go true e = sym (first-here (ltb-true k to e))
+      go false e = sym (first-none (ltb-false k to e))
+
 -- ---- Places
-
-module _ (from count x : ℕ) where
-  pub place-below : x < from → place_among from count x ≡ 0
-  unfolding place_among
-  place-below h = rw (lt-ltb x from h)
-
-  pub place_in : from ≤ x → x < from + count → place_among from count x ≡ x - from
-  unfolding place_among
-  place_in h k = rw (le-ltb x from h, lt-ltb x (from + count) k)
-
-  pub place-above : from ≤ x → from + count ≤ x → place_among from count x ≡ count - 1
-  unfolding place_among
-  place-above h k = rw (le-ltb x from h, le-ltb x (from + count) k)
 
 -- A place is one of the entries.
 pub place-most : (from count x : ℕ) → 1 ≤ count → place_among from count x < count
@@ -83,7 +79,7 @@ count-least d = go (eqb (le16 d 0) 0) refl
     go false e = at_least (le16 d 0) (eqb-false (le16 d 0) 0 e)
 
 -- No entry of it is lacking.
-pub entry-is : (d t : List ℕ) → is_lut d t ≡ true → (x : ℕ) → entry_of d t x ≡ Is (entry_at d t x)
+pub entry-is : (d t : List ℕ) → is_lut d t ≡ true → (x : ℕ) → entry_of d t x ≡ Some (entry_at d t x)
 unfolding entry_of entry_place
 entry-is d t e x =
     let l = lut-is d t e in
@@ -100,3 +96,25 @@ cell-entry g v f d t i x from count place r a b c e h =
 
 pub samples-few : (g : Geometry) → Shaped g → samples_of g ≤ 4294836225
 samples-few g h = mul-le-mul {n₁ = g.rows} {m₁ = g.columns} {n₂ = 65535} {m₂ = 65535} h.rows-most h.columns-most
+
+-- The cells of a frame lie in its pixel bytes, and the entries in the LUT.
+module _ (g : Geometry) (v d t values : List ℕ) (f : ℕ) (m : MapReady v g f d t values) where
+  pub low-frame : 1 ≤ f
+  low-frame = (frame-facts g v f m.inside).0
+
+  pub first-fits : (f - 1) * samples_of g ≤ length v
+  first-fits = (native-run g v f m.shape.width m.inside).1
+
+  pub cell-fits : (i : ℕ) → i < samples_of g → (f - 1) * samples_of g + i < length v
+  cell-fits i h = ((native-run g v f m.shape.width m.inside).0 i h).1
+
+  pub cell-inside : (i : ℕ) → i < samples_of g → ((f - 1) * samples_of g + i) * g.width + g.width ≤ length v
+  cell-inside i h = ((native-run g v f m.shape.width m.inside).0 i h).0
+
+  pub three : length d ≡ 6
+  three = (lut-is d t m.lut).three
+
+  pub two : length t ≡ 2 * entry_count d
+  two = (lut-is d t m.lut).two
+
+pub ruleset cells = (low-frame, first-fits, cell-fits, cell-inside, three, two, painted-more, painted-length)

@@ -1,14 +1,12 @@
 -- Mapping a frame whose parts are all there gives what the mapping says.
+use Rattle.std.specs.Prelude.{Option, Some, is_some, IsSome}
 use mathlib.Core.Path.{◌≡◌, sym, ap, ◌∙◌, subst}
 use mathlib.Core.Bool.{true}
 use mathlib.Core.List.{List, ◌++◌}
-use mathlib.Core.Option.{Option, none, some}
 use Prim.Native.Nat.{ℕ, ◌≤◌}
 use native.Mathlib.Omega.{arith}
 use lib.ListN.{length, drop, replicate, length-replicate}
 use borrow.Author.Tests.{eq-eqb}
-use Rattle.value.specs.declared.Num.TheVariants.{Is, None}
-use Rattle.basics.proofs.Tests.{false-is-true}
 use Rattle.node.specs.Nodes.{Node, inside}
 use Rattle.node.specs.Find.{find_vr}
 use Rattle.basics.specs.Tags
@@ -20,7 +18,7 @@ use Rattle.pixel.specs.Pixel.{samples_of, is_frame, sample_at}
 use Rattle.pixel.specs.Internal.{painted, Shaped}
 use Rattle.steps.specs.Steps.{geometry_of, pixels_of}
 use Rattle.node.proofs.Tests.{holds-is}
-use Rattle.steps.proofs.Given.{never, same_some}
+use Rattle.steps.proofs.Given.{same_some}
 use Rattle.display.proofs.Pictures.{collected}
 use Rattle.linear.specs.Mapping.{entry_at, entry_of, mapping_by}
 use Rattle.linear.specs.Answer.{entries_in}
@@ -28,22 +26,18 @@ use Rattle.linear.specs.Internal.{MapReady, Mappable}
 use Rattle.linear.proofs.Laws.{lut-is, entry-is}
 
 module _ (ns : List Node) (f j most : ℕ) (m : Mappable ns f j most) where
-  pub no-geometry : geometry_of ns ≡ none → ⊥
-  no-geometry e = never (sym e ∙ m.geometry)
-
-  pub no-pixels : pixels_of ns ≡ none → ⊥
-  no-pixels e = never (sym e ∙ m.pixels)
-
-  pub no-descriptor : find_vr ns Tags.LUTDescriptor US (inside ns j) ≡ None → ⊥
+  pub descriptor-there : {r : Option ℕ} → r ≡ find_vr ns Tags.LUTDescriptor US (inside ns j) → IsSome r
   unfolding has_lut
-  no-descriptor e = false-is-true (rw e at m.lut)
+  descriptor-there e = ap is_some (e ∙ (holds-is (find_vr ns Tags.LUTDescriptor US (inside ns j)) _ m.lut).1.0)
 
-  pub no-data : (d : ℕ) → find_vr ns Tags.LUTDescriptor US (inside ns j) ≡ Is d → find_vr ns Tags.LUTData OW (inside ns j) ≡ None → ⊥
+  pub data-there : {r : Option ℕ} → r ≡ find_vr ns Tags.LUTData OW (inside ns j) → IsSome r
   unfolding has_lut
-  no-data d e h = false-is-true (rw (e, h) at m.lut)
+  data-there e =
+      let d = holds-is (find_vr ns Tags.LUTDescriptor US (inside ns j)) _ m.lut in
+      ap is_some (e ∙ (holds-is (find_vr ns Tags.LUTData OW (inside ns j)) _ d.1.1).1.0)
 
-  module _ (g : Geometry) (v : List ℕ) (d t : ℕ) (eg : geometry_of ns ≡ some g) (ev : pixels_of ns ≡ some v)
-      (ed : find_vr ns Tags.LUTDescriptor US (inside ns j) ≡ Is d) (et : find_vr ns Tags.LUTData OW (inside ns j) ≡ Is t) where
+  module _ (g : Geometry) (v : List ℕ) (d t : ℕ) (eg : geometry_of ns ≡ Some g) (ev : pixels_of ns ≡ Some v)
+      (ed : find_vr ns Tags.LUTDescriptor US (inside ns j) ≡ Some d) (et : find_vr ns Tags.LUTData OW (inside ns j) ≡ Some t) where
     lut : is_lut (value_at ns d) (value_at ns t) ≡ true
     unfolding has_lut
     lut = rw (ed, et) at m.lut
@@ -68,7 +62,7 @@ module _ (ns : List Node) (f j most : ℕ) (m : Mappable ns f j most) where
     -- The numbers, and what the values buffer holds.
     pub record Maps (values : List ℕ) : Type 0 where
       pub l : List ℕ
-      pub is : mapping_by ns f j ≡ some l
+      pub is : mapping_by ns f j ≡ Some l
       pub size : length l ≡ samples_of g
       pub painted-is : painted (λ i. entry_at (value_at ns d) (value_at ns t) (sample_at g v f i)) (samples_of g) values
           ≡ l ++ drop (samples_of g) values
@@ -96,7 +90,7 @@ module _ (ns : List Node) (f j most : ℕ) (m : Mappable ns f j most) where
         ∙ ap (λ (o : Option (List ℕ)). entries_in o ++ drop (length (entries_in o)) values) (sym c.is)
 
   -- What the mapping gives, whatever the room.
-  pub by-mappable : (l : List ℕ) × ((mapping_by ns f j ≡ some l) × (length l ≡ samples_of m.g))
+  pub by-mappable : (l : List ℕ) × ((mapping_by ns f j ≡ Some l) × (length l ≡ samples_of m.g))
   unfolding has_lut
   by-mappable =
       let d = holds-is (find_vr ns Tags.LUTDescriptor US (inside ns j)) _ m.lut in

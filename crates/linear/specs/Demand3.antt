@@ -6,8 +6,7 @@
 -- and the values buffer is untouched beyond it. The statement covers all steps, frames, cells and entries at once. It is made of the same
 -- definitions of the rules, the steps and the mapping that the calls are proved to follow, and no rule is built into the steps or the
 -- mapping. Proved in proofs/Demand3.
-use Rattle.std.specs.Prelude.{◌≡◌, true, List, ◌++◌, ℕ, length, drop}
-use Rattle.std.proofs.Math.Option.{some}
+use Rattle.std.specs.Prelude.{◌≡◌, true, List, ◌++◌, ℕ, length, drop, Some}
 use Rattle.basics.specs.Bytes.{IsBytes}
 use Rattle.dataset.specs.Tree.{rows_of}
 use Rattle.node.specs.Nodes.{Node, nodes_of}
@@ -19,13 +18,13 @@ use Rattle.linear.specs.Answer.{linear_of, values_left, fields_of}
 -- The mapping lacks nothing at frame f: it gives exactly Rows × Columns numbers.
 pub record Mapped (ns : List Node) (f : ℕ) : Type 0 where
   pub l : List ℕ
-  pub is : mapping_of ns f ≡ some l
+  pub is : mapping_of ns f ≡ Some l
   pub size : length l ≡ image_size ns
 
 -- The mapping gives numbers l, and `linear` hands back l.
 pub record LinearBack (s : List ℕ) (f : ℕ) (buffer values : List ℕ) : Type 0 where
   pub l : List ℕ
-  pub is : mapping_of (nodes_of s) f ≡ some l
+  pub is : mapping_of (nodes_of s) f ≡ Some l
   pub rows : (fields_of (linear_of s f buffer values)).rows ≡ length (rows_of s)
   pub numbers : values_left s f buffer values ≡ l ++ drop (image_size (nodes_of s)) values
 

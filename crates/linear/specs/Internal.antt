@@ -1,6 +1,5 @@
 -- What the functions inside `linear` require. None of this is in the papers.
-use Rattle.std.specs.Prelude.{◌≡◌, true, List, ℕ, ◌≤◌, length}
-use Rattle.std.proofs.Math.Option.{some}
+use Rattle.std.specs.Prelude.{◌≡◌, true, List, ℕ, ◌≤◌, length, Some}
 use Rattle.node.specs.Nodes.{Node}
 use Rattle.pixel.specs.declared.Geometry.{Geometry}
 use Rattle.pixel.specs.Pixel.{samples_of, is_frame}
@@ -18,9 +17,9 @@ pub record MapReady (pixels : List ℕ) (g : Geometry) (frame : ℕ) (descriptor
 -- Frame f of an accepted object, with TO_LINEAR item j and room.
 pub record Mappable (ns : List Node) (f j most : ℕ) : Type 0 where
   pub g : Geometry
-  pub geometry : geometry_of ns ≡ some g
+  pub geometry : geometry_of ns ≡ Some g
   pub v : List ℕ
-  pub pixels : pixels_of ns ≡ some v
+  pub pixels : pixels_of ns ≡ Some v
   pub shape : Shaped g
   pub inside : is_frame g v f ≡ true
   pub room : samples_of g ≤ most

@@ -1,9 +1,8 @@
 -- What is mapped of a data set if the row buffer is large enough, which is what the program prints: the answer, the frame's size and
 -- the numbers.
-use Rattle.std.specs.Prelude.{ℕ, List}
+use Rattle.std.specs.Prelude.{ℕ, List, Result, Ok, Err}
 use Rattle.node.specs.Nodes.{Node, nodes_of}
-use Rattle.linear.specs.declared.LinearAnswer.{LinearAnswer}
-use Rattle.linear.specs.declared.LinearAnswer.TheVariants as linear
+use Rattle.linear.specs.declared.LinearError.{LinearError}
 use Rattle.linear.specs.Answer.{linear_of, values_left}
 use Rattle.judge_small.specs.Printed.{full_buffer}
 use Rattle.show_small.specs.declared.Sides.{Sides}
@@ -11,17 +10,11 @@ use Rattle.show_small.specs.Shown.{sides_of, no_sides}
 use Rattle.linear_small.specs.declared.Mapped.{Mapped}
 
 -- The sides that go with an answer: those of a frame that was mapped.
-abbrev pub sides_for : List Node → LinearAnswer → Sides
-sides_for ns (linear.Mapped n) = sides_of ns
-sides_for ns (linear.Broken n rule frame) = no_sides
-sides_for ns (linear.Refused code offset) = no_sides
-sides_for ns linear.TooLarge = no_sides
-sides_for ns linear.NoRoom = no_sides
-sides_for ns linear.NoFrame = no_sides
-sides_for ns linear.NoItem = no_sides
-sides_for ns linear.NoValuesRoom = no_sides
+abbrev pub sides_for : List Node → Result ℕ LinearError → Sides
+sides_for ns (Ok n) = sides_of ns
+sides_for ns (Err e) = no_sides
 
-abbrev pub sized : List Node → LinearAnswer → Mapped
+abbrev pub sized : List Node → Result ℕ LinearError → Mapped
 sized ns a = record { answer = a; sides = sides_for ns a }
 
 abbrev pub linear_printed : List ℕ → ℕ → List ℕ → Mapped

@@ -4,19 +4,21 @@
 ghost use Rattle.std.specs.Prelude.{◌≡◌, ◌*◌, ◌≤◌, length};
 ghost use Rattle.linear_small.specs.Mapped.{linear_printed, values_printed};
 
-use linear::LinearAnswer;
+use linear::LinearError;
+use node::DataSet;
 use room::row_buffer;
 use show_small::{Sides, sides_of};
 
 // The answer of `linear`, and the sides of the frame; 0 and 0 if no frame was mapped.
 #[derive(Clone, Copy)]
 pub struct Mapped {
-    pub answer: LinearAnswer,
+    pub answer: Result<usize, LinearError>,
     pub sides: Sides,
 }
 
 // What `linear` answers and maps; never code 8. That there is room for the numbers follows from the first clause, and is
 // stated for the callers that print them.
+#[tactic(auto, using(crate::proofs::Roomy::mapping))]
 pub fn linear_small(bytes: &[u8], frame: u64, values: &mut [u16]) -> Mapped
     requires { length bytes.now ≤ 65536 }
     ensures value { result ≡ linear_printed bytes.now frame values.old }
@@ -25,17 +27,15 @@ pub fn linear_small(bytes: &[u8], frame: u64, values: &mut [u16]) -> Mapped
 {
     let mut rows = row_buffer();
     let answer = linear::linear(bytes, frame, &mut rows, values);
-    let LinearAnswer::Mapped(count) = answer else {
-        let sides = Sides {
-            width: 0,
-            height: 0,
+    let Ok(count) = answer else {
+        return Mapped {
+            answer,
+            sides: Sides::default(),
         };
-        return Mapped { answer, sides };
     };
-    let end = dataset::WIDTH * count;
-    let sides = sides_of(bytes, &rows[..end]);
+    let set = DataSet::new(bytes, &rows[..dataset::WIDTH * count]);
     Mapped {
-        answer: LinearAnswer::Mapped(count),
-        sides,
+        answer,
+        sides: sides_of(&set),
     }
 }

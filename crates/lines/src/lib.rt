@@ -146,7 +146,7 @@ fn masked_by_window(
     let half = pixel::power(g.stored - 1);
     let low = pixel::power(g.stored) - 1;
     for c in 0..columns {
-        let place = pixel::sample(line, g, low, c) + low - basics::wider(masks[s + c]);
+        let place = pixel::sample(line, g, low, c) + low - masks[s + c] as usize;
         levels[c] = window::shade(window, place + half, low, inverse);
     }
 }
@@ -211,16 +211,10 @@ pub fn masked_way(
     requires { Shaped g × (Masks pixels.now g masks.now × (ShortMoves moves × (longest_row ≤ length lower.old))) }
     ensures { WayOf result pixels.now g masks.now filled moves lower.new }
 {
-    let vertical = moves.vertical;
-    let horizontal = moves.horizontal;
-    let down = pixel::offset_of(vertical);
-    let right = pixel::offset_of(horizontal);
-    if filled {
-        if down % pixel::UNIT == 0 {
-            if right % pixel::UNIT == 0 {
-                return Way::Whole(down, right);
-            }
-        }
+    let down = pixel::offset_of(moves.vertical);
+    let right = pixel::offset_of(moves.horizontal);
+    if filled && down % pixel::UNIT == 0 && right % pixel::UNIT == 0 {
+        return Way::Whole(down, right);
     }
     pixel::average_row(
         pixels,

@@ -3,16 +3,15 @@
 // its elements notes what is looked for.
 #![tactic(auto)]
 
-ghost use Rattle.std.specs.Prelude.{◌≡◌, ◌+◌, ◌-◌, ◌/◌, ◌≤◌, cond, false, length, eqb};
+ghost use Rattle.std.specs.Prelude.{◌≡◌, ◌+◌, ◌-◌, ◌≤◌, false, length};
 ghost use Rattle.dataset.specs.Reading.{depths, elements_at, value_run};
-ghost use Rattle.dataset.specs.Header.{cursor, element_at};
-ghost use Rattle.dataset.specs.Internal.{Within, Walked, Ready, items_at};
+ghost use Rattle.dataset.specs.Header.{cursor};
+ghost use Rattle.dataset.specs.Internal.{Walked, Ready, items_at};
 ghost use Rattle.meta.specs.Meta.{start, is_marked, has_group_length, head_end, uid_at, noted, named, headed_of, meta_of};
-ghost use Rattle.meta.specs.declared.Uid.TheVariants.{At};
-ghost use Rattle.meta.specs.Internal.{UidWithin, walk_of, ElementsWithin, MetaWithin};
+ghost use Rattle.meta.specs.Internal.{UidWithin, PlacesWithin, FoundWithin, MetaWithin, walk_of};
 
 use basics::{tags, vrs};
-use dataset::{Cursor, DEPTHS, Head, Walk};
+use dataset::{Cursor, DEPTHS, Head, Refusal, Walk};
 
 // Where "DICM" stands: after 128 bytes of anything.
 const MARK: usize = 128;
@@ -20,185 +19,157 @@ const MARK: usize = 128;
 // Where the head's elements start: after it.
 const START: usize = 132;
 
-// Where the value of a UID starts and stops.
-#[derive(Clone, Copy)]
-enum Uid {
-    At(usize, usize),
-    None,
+// Where a value starts and stops in the file.
+#[derive(Clone, Copy, Debug, PartialEq, Eq)]
+pub struct Place {
+    pub start: usize,
+    pub stop: usize,
 }
 
-// What is found in the head's elements at depth 0: whether all are of group 0002, and where the two UIDs are.
+// Where the two UIDs are among the head's elements at depth 0.
 #[derive(Clone, Copy)]
 struct HeadFindings {
-    pub only: bool,
-    pub class: Uid,
-    pub syntax: Uid,
+    class: Option<Place>,
+    syntax: Option<Place>,
 }
 
-// The result of reading the head's elements: what was found in them, or that they break a reading check.
-#[derive(Clone, Copy)]
-enum Elements {
-    Good(HeadFindings),
-    Refused,
+// What a head says: where the data set starts, and where the SOP class is that the head names.
+#[derive(Clone, Copy, Debug, PartialEq, Eq)]
+pub struct FileHead {
+    pub data_set: usize,
+    pub class: Place,
 }
 
-// What a head says: where the data set starts, and where the SOP class that the head names starts and stops; codes 15, 16, 17.
-#[derive(Clone, Copy)]
-pub enum Meta {
-    Good(usize, usize, usize),
+// Why a head is refused: codes 15, 16, 17.
+#[derive(Clone, Copy, Debug, PartialEq, Eq)]
+pub enum HeadError {
     NoMark,
     BadHead,
     OtherSyntax,
 }
 
+#[tactic(auto, unfolding(crate::specs::Meta::is_marked))]
 fn is_marked(file: &[u8]) -> bool
     ensures { result ≡ is_marked file.now }
 {
-    if file.len() < START {
-        return false;
-    }
-    basics::same_bytes(&file[MARK..START], b"DICM")
+    START <= file.len() && &file[MARK..START] == b"DICM".as_slice()
 }
 
+#[tactic(auto, unfolding(crate::specs::Meta::has_group_length))]
 fn has_group_length(file: &[u8]) -> bool
     ensures { result ≡ has_group_length file.now }
 {
-    if file.len() < START + 12 {
-        return false;
-    }
-    if basics::tag_at(file, START) != tags::FILE_META_INFORMATION_GROUP_LENGTH {
-        return false;
-    }
-    if basics::vr_at(file, START + 4) != vrs::UL {
-        return false;
-    }
-    basics::u16_at(file, START + 6) == 4
+    START + 12 <= file.len()
+        && basics::tag_at(file, START) == tags::FILE_META_INFORMATION_GROUP_LENGTH
+        && basics::vr_at(file, START + 4) == vrs::UL
+        && basics::u16_at(file, START + 6) == 4
 }
 
-fn uid_at(vr: usize, start: usize, stop: usize) -> Uid
+#[tactic(auto, unfolding(crate::specs::Meta::uid_at))]
+fn uid_at(vr: usize, start: usize, stop: usize) -> Option<Place>
     requires { start ≤ stop }
     ensures value { result ≡ uid_at vr start (stop - start) }
     ensures uid_within { UidWithin stop result }
 {
-    if vr == vrs::UI {
-        if stop == start {
-            Uid::None
-        } else {
-            Uid::At(start, stop)
-        }
+    if vr == vrs::UI && start < stop {
+        Some(Place { start, stop })
     } else {
-        Uid::None
+        None
     }
 }
 
-// The first UID for an element of the tag, otherwise the second.
-fn chosen(tag: usize, due: usize, here: Uid, before: Uid) -> Uid
-    ensures { result ≡ cond (eqb tag due) here before }
-{
-    if tag == due { here } else { before }
-}
-
-// Whether all elements are of group 0002, with one more.
-fn has_only_group_2(tag: usize, before: bool) -> bool
-    ensures { result ≡ cond (eqb (tag / 65536) 2) before false }
-{
-    if tag / 65536 == 2 { before } else { false }
-}
-
-// What is found with one more element.
-fn note(found: HeadFindings, tag: usize, vr: usize, start: usize, stop: usize) -> HeadFindings
+// What is found with one more element; nothing if one is of another group than 0002.
+#[tactic(auto, unfolding(crate::specs::Meta::noted))]
+fn note(
+    found: Option<HeadFindings>,
+    tag: usize,
+    vr: usize,
+    start: usize,
+    stop: usize,
+) -> Option<HeadFindings>
     requires { start ≤ stop }
     ensures { result ≡ noted found tag vr start (stop - start) }
 {
+    let found = found?;
+    if tag / 65536 != 2 {
+        return None;
+    }
     let here = uid_at(vr, start, stop);
-    let class = found.class;
-    let syntax = found.syntax;
-    HeadFindings {
-        only: has_only_group_2(tag, found.only),
-        class: chosen(tag, tags::MEDIA_STORAGE_SOP_CLASS_UID, here, class),
-        syntax: chosen(tag, tags::TRANSFER_SYNTAX_UID, here, syntax),
-    }
+    Some(HeadFindings {
+        class: if tag == tags::MEDIA_STORAGE_SOP_CLASS_UID {
+            here
+        } else {
+            found.class
+        },
+        syntax: if tag == tags::TRANSFER_SYNTAX_UID {
+            here
+        } else {
+            found.syntax
+        },
+    })
 }
 
-// What is at a cursor among the head's elements, where no delimiter is due: the same as `Cursor::element`, which is left to the readers'
-// loops because they are faster that way.
-fn header(file: &[u8], c: Cursor, least: usize) -> Head
-    requires { (c.at ≤ c.end) × ((c.end ≤ length file.now) × (c.delimited ≡ false)) }
-    ensures value { result ≡ element_at file.now c least depths }
-    ensures within { Within c result }
-{
-    if c.at == c.end {
-        return Head::End(0, 0, c);
-    }
-    if c.end - c.at < 8 {
-        return Head::Refused(1);
-    }
-    let tag = basics::tag_at(file, c.at);
-    if tag / 65536 == tags::ITEM_GROUP {
-        return Head::Refused(5);
-    }
-    if tag < least {
-        return Head::Refused(2);
-    }
-    let vr = basics::vr_at(file, c.at + 4);
-    c.typed(
-        file,
-        tag,
-        vr,
-        basics::vr_form(vr),
-        basics::u16_at(file, c.at + 6),
-        DEPTHS,
-    )
-}
-
-// A sequence of the head, item by item. There is no buffer for its rows, which are numbered from `first`.
-fn items(file: &[u8], c: Cursor, none: &mut [u32], first: usize) -> Walk
+// A sequence of the head, item by item. There is no buffer for its rows, which are numbered from `first`. The readers of `dataset` have the
+// same two functions: if this crate called theirs, the compiler would no longer inline them there, and reading a data set would take 8 to
+// 37 % more instructions.
+fn items(file: &[u8], c: Cursor, none: &mut [u32], first: usize) -> Result<Walk, Refusal>
     requires { Ready file.now c 7 first (length none.old) × (length none.old ≡ 0) }
     ensures { Walked (items_at 7 file.now first c) c first none.old none.new result }
 {
     let mut here = c;
     let mut n = first;
     loop {
-        let at = here.at;
         match here.item(file) {
-            Head::Refused(code) => {
-                return Walk::Refused(code, at);
+            Err(fault) => {
+                return Err(Refusal {
+                    fault,
+                    offset: here.at,
+                });
             }
-            Head::End(_, _, next) => {
-                return Walk::Done(at, next.at, n);
+            Ok(Head::End(_, _, next)) => {
+                return Ok(Walk {
+                    stop: here.at,
+                    next: next.at,
+                    rows: n,
+                });
             }
-            Head::Header(_, _, item) => {
-                match dataset::read_item(file, item, DEPTHS - 1, none, n + 1) {
-                    Walk::Refused(code, offset) => {
-                        return Walk::Refused(code, offset);
-                    }
-                    Walk::Done(_, next, m) => {
-                        here = here.moved(next);
-                        n = m;
-                    }
-                }
+            Ok(Head::Header(_, _, item)) => {
+                let walk = dataset::read_item(file, item, DEPTHS - 1, none, n + 1)?;
+                here = here.moved(walk.next);
+                n = walk.rows;
             }
         }
     }
 }
 
 // The result of reading a value.
-fn past(file: &[u8], vr: usize, value: Cursor, none: &mut [u32], first: usize) -> Walk
+fn past(
+    file: &[u8],
+    vr: usize,
+    value: Cursor,
+    none: &mut [u32],
+    first: usize,
+) -> Result<Walk, Refusal>
     requires { Ready file.now value 7 first (length none.old) × (length none.old ≡ 0) }
     ensures { Walked (value_run depths file.now first vr value) value first none.old none.new result }
 {
     if vr == vrs::SQ {
         items(file, value, none, first)
     } else {
-        Walk::Done(value.end, value.end, first)
+        Ok(Walk {
+            stop: value.end,
+            next: value.end,
+            rows: first,
+        })
     }
 }
 
-// The head's elements up to `end`, one after another. There is no buffer for their rows.
-fn walk_head(file: &[u8], end: usize, none: &mut [u32]) -> Elements
+// What is found in the head's elements up to `end`; nothing if they break a reading check or one is of another group than 0002. There is
+// no buffer for their rows.
+fn walk_head(file: &[u8], end: usize, none: &mut [u32]) -> Option<HeadFindings>
     requires { (start ≤ end) × ((end ≤ length file.now) × (length none.old ≡ 0)) }
     ensures value { result ≡ walk_of (elements_at depths file.now 0 (cursor start end false)) }
-    ensures elements_within { ElementsWithin (length file.now) result }
+    ensures found_within { FoundWithin (length file.now) result }
 {
     let mut here = Cursor {
         at: START,
@@ -207,113 +178,75 @@ fn walk_head(file: &[u8], end: usize, none: &mut [u32]) -> Elements
     };
     let mut n: usize = 0;
     let mut least: usize = 0;
-    let mut found = HeadFindings {
-        only: true,
-        class: Uid::None,
-        syntax: Uid::None,
-    };
+    let mut found = Some(HeadFindings {
+        class: None,
+        syntax: None,
+    });
     loop {
-        match header(file, here, least) {
-            Head::Refused(_) => {
-                return Elements::Refused;
-            }
-            Head::End(_, _, _) => {
-                return Elements::Good(found);
-            }
-            Head::Header(tag, vr, value) => {
-                let start = value.at;
-                match past(file, vr, value, none, n + 1) {
-                    Walk::Refused(_, _) => {
-                        return Elements::Refused;
-                    }
-                    Walk::Done(stop, next, m) => {
-                        found = note(found, tag, vr, start, stop);
-                        here = here.moved(next);
-                        n = m;
-                        least = tag + 1;
-                    }
-                }
+        match here.element(file, least, DEPTHS) {
+            Err(_) => return None,
+            Ok(Head::End(_, _, _)) => return found,
+            Ok(Head::Header(tag, vr, value)) => {
+                let Ok(walk) = past(file, vr, value, none, n + 1) else {
+                    return None;
+                };
+                found = note(found, tag, vr, value.at, walk.stop);
+                here = here.moved(walk.next);
+                n = walk.rows;
+                least = tag + 1;
             }
         }
     }
 }
 
-// The two UIDs, from a to b and from c to d: both single, and the second Explicit VR Little Endian.
-fn checked(file: &[u8], end: usize, a: usize, b: usize, c: usize, d: usize) -> Meta
-    requires { ((end ≡ head_end file.now) × (end ≤ length file.now))
-        × (((a ≤ b) × (b ≤ length file.now)) × ((c ≤ d) × (d ≤ length file.now))) }
-    ensures value { result ≡ named file.now (At a b) (At c d) }
+// Both UIDs must be there, both single, and the second Explicit VR Little Endian.
+fn names(file: &[u8], end: usize, found: HeadFindings) -> Result<FileHead, HeadError>
+    requires { ((end ≡ head_end file.now) × (end ≤ length file.now)) × PlacesWithin (length file.now) found }
+    ensures value { result ≡ named file.now found.class found.syntax }
     ensures meta_within { MetaWithin (length file.now) result }
 {
-    if value::is_single(&file[a..b]) {
-        let syntax = &file[c..d];
-        if value::is_single(syntax) {
-            if value::is_uid(syntax, b"1.2.840.10008.1.2.1") {
-                Meta::Good(end, a, b)
-            } else {
-                Meta::OtherSyntax
-            }
-        } else {
-            Meta::BadHead
-        }
-    } else {
-        Meta::BadHead
+    let class = found.class.ok_or(HeadError::BadHead)?;
+    let syntax = found.syntax.ok_or(HeadError::BadHead)?;
+    let syntax = &file[syntax.start..syntax.stop];
+    if !value::is_single(&file[class.start..class.stop]) || !value::is_single(syntax) {
+        return Err(HeadError::BadHead);
     }
-}
-
-fn names(file: &[u8], end: usize, class: Uid, syntax: Uid) -> Meta
-    requires { ((end ≡ head_end file.now) × (end ≤ length file.now))
-        × (UidWithin (length file.now) class × UidWithin (length file.now) syntax) }
-    ensures value { result ≡ named file.now class syntax }
-    ensures meta_within { MetaWithin (length file.now) result }
-{
-    match class {
-        Uid::None => Meta::BadHead,
-        Uid::At(a, b) => match syntax {
-            Uid::None => Meta::BadHead,
-            Uid::At(c, d) => checked(file, end, a, b, c, d),
-        },
+    if !value::is_uid(syntax, b"1.2.840.10008.1.2.1") {
+        return Err(HeadError::OtherSyntax);
     }
+    Ok(FileHead {
+        data_set: end,
+        class,
+    })
 }
 
 // The head of a file with a mark and a group length.
-fn headed(file: &[u8]) -> Meta
+#[tactic(auto, unfolding(crate::specs::Meta::headed_of, crate::specs::Meta::head_of, crate::specs::Meta::head_end))]
+fn headed(file: &[u8]) -> Result<FileHead, HeadError>
     requires { start + 12 ≤ length file.now }
     ensures value { result ≡ headed_of file.now }
     ensures meta_within { MetaWithin (length file.now) result }
 {
     let end = START + 12 + basics::u32_at(file, START + 8);
     if file.len() < end {
-        return Meta::BadHead;
+        return Err(HeadError::BadHead);
     }
-    let mut room = [0u32; 1];
-    let none: usize = 0;
-    match walk_head(file, end, &mut room[none..none]) {
-        Elements::Refused => Meta::BadHead,
-        Elements::Good(found) => {
-            let class = found.class;
-            let syntax = found.syntax;
-            if found.only {
-                names(file, end, class, syntax)
-            } else {
-                Meta::BadHead
-            }
-        }
-    }
+    let mut none = [0u32; 0];
+    let found = walk_head(file, end, &mut none).ok_or(HeadError::BadHead)?;
+    names(file, end, found)
 }
 
 // What the head of a file says.
-pub fn read_head(file: &[u8]) -> Meta
+#[tactic(auto, unfolding(crate::specs::Meta::meta_of, crate::specs::Meta::has_group_length))]
+pub fn read_head(file: &[u8]) -> Result<FileHead, HeadError>
     ensures value { result ≡ meta_of file.now }
     ensures meta_within { MetaWithin (length file.now) result }
 {
-    if is_marked(file) {
-        if has_group_length(file) {
-            headed(file)
-        } else {
-            Meta::BadHead
-        }
-    } else {
-        Meta::NoMark
+    if !is_marked(file) {
+        return Err(HeadError::NoMark);
     }
+    if !has_group_length(file) {
+        return Err(HeadError::BadHead);
+    }
+    headed(file)
 }

@@ -1,6 +1,7 @@
 -- Finding an element by halves. A node's parents lead to the member of a container that it is below; and tags never descend among
 -- members: they ascend among elements, and items all have one tag. So a member's tag says on which side of it the first member stands
 -- whose tag is not below the one that is sought.
+use Rattle.std.specs.Prelude.{Some, None}
 use mathlib.Core.Path.{◌≡◌, refl, sym, ap, ◌∙◌, subst}
 use Prim.Native.Nat.{ℕ, ◌+◌, ◌≤◌, ◌<◌}
 use native.Mathlib.Omega.{arith}
@@ -11,12 +12,11 @@ use lib.ListN.{length}
 use lib.Dec.{eqb, ltb}
 use borrow.Author.Tests.{lt-ltb, le-ltb, eq-eqb, ne_eqb, ltb-true, ltb-false, eqb-false}
 use Rattle.basics.specs.Tags.{item_tag}
-use Rattle.dataset.specs.Reading.{Row}
+use Rattle.dataset.specs.declared.Row.{Row}
 use Rattle.dataset.specs.Tree.{rows_of, row_at, next_row, Kind, elements, items, kind_inside, depth_inside, Member, Members}
 use Rattle.dataset.proofs.Tree.{rows-members}
 use Rattle.dataset.proofs.Laws.{Found, row-found, row_next, row-nested}
 use Rattle.dataset.proofs.Parents.{Placed, placed}
-use Rattle.value.specs.declared.Num.TheVariants.{Is, None}
 use Rattle.node.specs.Nodes.{Node, nodes_of, node_at, next_node, members, root, inside}
 use Rattle.node.specs.Find.{find}
 use Rattle.node.specs.Internal.{Table, Ascends, from_tag, first_is, lower, Container, MemberAbove}
@@ -121,7 +121,7 @@ module _ (ns : List Node) (tag k to : ℕ) where
   unfolding first_is
   first-none h = rw (members-end ns k to h)
 
-  pub first-here : k < to → (node_at ns k).tag ≡ tag → first_is ns tag (members ns k to) ≡ Is k
+  pub first-here : k < to → (node_at ns k).tag ≡ tag → first_is ns tag (members ns k to) ≡ Some k
   unfolding first_is
   first-here h e = rw (members-next ns k to h, eq-eqb (node_at ns k).tag tag e)
 

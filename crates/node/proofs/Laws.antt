@@ -1,4 +1,5 @@
 -- The join of the two views: node i is row i, and the seven numbers of row i stand from 7i on in the row table.
+use Rattle.std.specs.Prelude.{Option, Some, None}
 use mathlib.Core.Path.{◌≡◌, refl, sym, ap, ◌∙◌, subst}
 use Prim.Native.Nat.{ℕ, zero, suc, ◌+◌, ◌*◌, ◌≤◌, ◌<◌}
 use native.Mathlib.Omega.{arith}
@@ -7,13 +8,11 @@ use mathlib.Core.Logic.{◌⊎◌, inl, inr}
 use lib.ListN.{length, get_or, take, drop, length-map}
 use borrow.Author.Tests.{ne_eqb}
 use Rattle.basics.specs.Vr.{SQ}
-use Rattle.dataset.specs.Reading.{Row}
+use Rattle.dataset.specs.declared.Row.{Row}
 use Rattle.dataset.specs.Answer.{flat, width}
 use Rattle.dataset.specs.Tree.{rows_of, row_at, no_row}
 use Rattle.dataset.proofs.Buffer.{length-flat}
 use Rattle.dataset.proofs.Laws.{number_at, row-few, row_within, row_next}
-use Rattle.value.specs.declared.Num.{Num}
-use Rattle.value.specs.declared.Num.TheVariants.{Is, None}
 use Rattle.node.specs.Nodes.{Node, node_of, nodes_of, node_at, next_node, no_node}
 use Rattle.node.specs.Internal.{Table}
 use Rattle.value.specs.Internal.{Below}
@@ -39,6 +38,10 @@ table s rows e =
       size = ap length e ∙ length-flat (rows_of s) ∙ ap (λ (k : ℕ). width * k) (sym (nodes-count s));
       few = omega (arith, nodes-count s, row-few s);
     }
+
+-- So each data set has one.
+pub tabled : (s : List ℕ) → Table s (flat (rows_of s))
+tabled s = table s (flat (rows_of s)) refl
 
 module _ (s rows : List ℕ) (t : Table s rows) (i : ℕ) (h : i < length (nodes_of s)) where
   pub node-is : node_at (nodes_of s) i ≡ node_of s (row_at (rows_of s) i)
@@ -90,15 +93,15 @@ module _ (s rows : List ℕ) (t : Table s rows) (i : ℕ) (h : i < length (nodes
 
 -- ---- What an answer says, once it is taken apart
 
-pub had : {r o : Num} {k : ℕ} → r ≡ Is k → r ≡ o → o ≡ Is k
+pub had : {r o : Option ℕ} {k : ℕ} → r ≡ Some k → r ≡ o → o ≡ Some k
 had e f = sym f ∙ e
 
-pub had-none : {r o : Num} → r ≡ None → r ≡ o → o ≡ None
+pub had-none : {r o : Option ℕ} → r ≡ None → r ≡ o → o ≡ None
 had-none e f = sym f ∙ e
 
-pub within : (n : ℕ) {r : Num} {k : ℕ} → r ≡ Is k → Below n r → k < n
-within n e w = subst (λ (x : Num). Below n x) e w
+pub within : (n : ℕ) {r : Option ℕ} {k : ℕ} → r ≡ Some k → Below n r → k < n
+within n e w = subst (λ (x : Option ℕ). Below n x) e w
 
-pub below_more : (a b : ℕ) (r : Num) → a ≤ b → Below a r → Below b r
-below_more a b (Is k) h l = omega arith
+pub below_more : (a b : ℕ) (r : Option ℕ) → a ≤ b → Below a r → Below b r
+below_more a b (Some k) h l = omega arith
 below_more a b None h l = tt

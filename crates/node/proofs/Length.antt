@@ -9,7 +9,7 @@ use lib.ListN.{length, take, drop, length-drop}
 use lib.Seq.{length-take-le}
 use lib.Dec.{eqb}
 use Rattle.basics.specs.Vr.{SQ}
-use Rattle.dataset.specs.Reading.{Row}
+use Rattle.dataset.specs.declared.Row.{Row}
 use Rattle.dataset.specs.Tree.{rows_of, row_at}
 use Rattle.dataset.proofs.Laws.{row_within, row-roomy, sequence-bare}
 use Rattle.node.specs.Nodes.{node_of, nodes_of, node_at}

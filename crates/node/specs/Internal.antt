@@ -1,10 +1,8 @@
 -- What the functions of this crate require of and promise each other. None of this is in the papers.
-use Rattle.std.specs.Prelude.{◌≡◌, Bool, cond, List, [], ◌∷◌, ℕ, ◌*◌, ◌≤◌, ◌<◌, length, eqb, ltb}
+use Rattle.std.specs.Prelude.{◌≡◌, Bool, cond, List, [], ◌∷◌, ℕ, ◌*◌, ◌≤◌, ◌<◌, length, eqb, ltb, Option, Some, None}
 use Rattle.basics.specs.Limits.{most_rows}
 use Rattle.dataset.specs.Answer.{width, flat}
 use Rattle.dataset.specs.Tree.{rows_of, row_at, Kind, Members}
-use Rattle.value.specs.declared.Num.{Num}
-use Rattle.value.specs.declared.Num.TheVariants.{Is, None}
 use Rattle.node.specs.Nodes.{nodes_of, Node, node_at, next_node, members}
 
 -- The row table of a data set that was read, which every function here requires.
@@ -14,9 +12,9 @@ pub record Table (s rows : List ℕ) : Type 0 where
   pub few : length (nodes_of s) ≤ most_rows
 
 -- What p says about what was found; `otherwise` if nothing was.
-abbrev pub holds_or : Num → (ℕ → Bool) → Bool → Bool
+abbrev pub holds_or : Option ℕ → (ℕ → Bool) → Bool → Bool
 holds_or None p otherwise = otherwise
-holds_or (Is n) p otherwise = p n
+holds_or (Some n) p otherwise = p n
 
 -- ---- How the code finds an element among members: tags never descend among them, so a search can stop at the first tag not below the
 -- one sought, and can go by halves if that is far.
@@ -32,13 +30,13 @@ from_tag ns tag [] = []
 from_tag ns tag (k ∷ ks) = cond (ltb (node_at ns k).tag tag) (from_tag ns tag ks) (k ∷ ks)
 
 -- The first of the members, if it has the tag.
-unfoldable pub first_is : List Node → ℕ → List ℕ → Num
+unfoldable pub first_is : List Node → ℕ → List ℕ → Option ℕ
 first_is ns tag [] = None
-first_is ns tag (k ∷ ks) = cond (eqb (node_at ns k).tag tag) (Is k) None
+first_is ns tag (k ∷ ks) = cond (eqb (node_at ns k).tag tag) (Some k) None
 
 -- If the answer names a node, the members from it on are those from `from` up to `to` whose tags are not below the given tag.
-abbrev pub Nearby : List Node → ℕ → ℕ → ℕ → Num → Type 0
-Nearby ns tag from to (Is n) = members ns n to ≡ from_tag ns tag (members ns from to)
+abbrev pub Nearby : List Node → ℕ → ℕ → ℕ → Option ℕ → Type 0
+Nearby ns tag from to (Some n) = members ns n to ≡ from_tag ns tag (members ns from to)
 Nearby ns tag from to None = Unit {0}
 
 -- The number of the first member whose tag is not below the given tag; `to` if there is none.

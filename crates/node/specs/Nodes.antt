@@ -1,7 +1,7 @@
 -- A data set's elements and items without offsets: what the rules and the drawing steps see.
 use Rattle.std.specs.Prelude.{ℕ, zero, suc, ◌+◌, ◌-◌, List, [], ◌∷◌, map, Bool, cond, ◌||◌, length, get_or, take, drop, eqb, ltb}
 use Rattle.basics.specs.Vr.{SQ}
-use Rattle.dataset.specs.Reading.{Row}
+use Rattle.dataset.specs.declared.Row.{Row}
 use Rattle.dataset.specs.Tree.{rows_of}
 
 -- An element or item: its tag, VR (an item's is 0), depth, number of nodes below it, and, unless it is a sequence or an item, its value.

@@ -1,5 +1,5 @@
 -- What the functions of this crate require of and promise each other. None of this is in the papers.
-use Rattle.std.specs.Prelude.{◌≡◌, true, List, [], ◌∷◌, ◌⊎◌, ℕ, zero, suc, ◌+◌, ◌-◌, ◌^◌, ◌*◌, ◌/◌, ◌%◌, ◌≤◌, ◌<◌, min, get_or, set, length}
+use Rattle.std.specs.Prelude.{◌≡◌, true, List, [], ◌∷◌, ◌⊎◌, ℕ, zero, suc, ◌+◌, ◌-◌, ◌^◌, ◌*◌, ◌/◌, ◌%◌, ◌≤◌, ◌<◌, min, get_or, set, length, Option}
 use Rattle.basics.specs.Limits.{last_frame, most_mask_frames}
 use Rattle.value.specs.Number.{us_values}
 use Rattle.value.specs.declared.Signed.{Signed}
@@ -105,7 +105,7 @@ abbrev pub shifted : ℕ → ℕ → ℕ → ℕ
 shifted s size i = min (i + s - largest_shift) (size - 1)
 
 -- An offset in quarters, that is the largest move minus a move: its whole part is an offset, its rest the quarters above.
-pub record OffsetOf (m : Signed) (d : ℕ) : Type 0 where
+pub record OffsetOf (m : Option Signed) (d : ℕ) : Type 0 where
   pub most : d ≤ farthest_move
   pub places : (size r k : ℕ) → place_of m size r k ≡ shifted (d / shift_unit + k) size r
   pub above : (r : ℕ) → rest_of m r ≡ d % shift_unit

@@ -1,6 +1,6 @@
 -- Drawing steps 1, 3 and 4 over the bytes of Pixel Data: samples (the paper's cells), the average of mask frames, and
 -- the mask value that a sample takes, blended from four. Samples of a frame are numbered row by row from 0, frames from 1.
-use Rattle.std.specs.Prelude.{ℕ, ◌+◌, ◌-◌, ◌*◌, ◌/◌, ◌%◌, ◌^◌, min, Bool, ◌&&◌, List, [], ◌∷◌, length, get_or, leb, ltb, ℤ, pos, negsuc, nat_abs, ◌+ℤ◌, ◌-ℤ◌, ◌*ℤ◌}
+use Rattle.std.specs.Prelude.{ℕ, ◌+◌, ◌-◌, ◌*◌, ◌/◌, ◌%◌, ◌^◌, min, Bool, ◌&&◌, List, [], ◌∷◌, length, get_or, leb, ltb, ℤ, pos, negsuc, nat_abs, ◌+ℤ◌, ◌-ℤ◌, ◌*ℤ◌, Option}
 use Rattle.basics.specs.Bytes.{le_number}
 use Rattle.value.specs.declared.Signed.{Signed}
 use Rattle.shift.specs.declared.Moves.{Moves}
@@ -36,7 +36,7 @@ unfoldable pub mask_at : Geometry → List ℕ → List ℕ → ℕ → ℕ
 mask_at g v ks i = average_of (sum_at g v ks i) (length ks)
 
 -- Step 4, in quarters of a pixel. Row or column r minus the shift.
-abbrev pub less_shift : Signed → ℕ → ℤ
+abbrev pub less_shift : Option Signed → ℕ → ℤ
 less_shift m r = pos (shift_unit * r) -ℤ integer m
 
 -- The whole number below, rounded down, and the quarters above that.
@@ -52,10 +52,10 @@ limited_to size (pos n) = min n (size - 1)
 limited_to size (negsuc n) = 0
 
 -- The k-th row or column from the whole one below r minus the shift, and the quarters above it.
-unfoldable pub place_of : Signed → ℕ → ℕ → ℕ → ℕ
+unfoldable pub place_of : Option Signed → ℕ → ℕ → ℕ → ℕ
 place_of m size r k = limited_to size (whole_below (less_shift m r) +ℤ pos k)
 
-unfoldable pub rest_of : Signed → ℕ → ℕ
+unfoldable pub rest_of : Option Signed → ℕ → ℕ
 rest_of m r = quarters_above (less_shift m r)
 
 -- One of the four neighbouring mask cells that sample i takes, `down` rows and `right` columns from the first: its row, its

@@ -13,7 +13,7 @@ ghost use Rattle.pixel.specs.Internal.{painted, edges, largest_side, largest_sam
 ghost use Rattle.pixel.specs.Internal.{plain_place, mask_place, Lies, RowLies, OffsetOf, shifted, Summed, Spread, Averaged, Cells};
 ghost use Rattle.pixel.specs.Internal.{Weights, painted_from, row_shade, Drawn, Blends, blends_at, Subtracts};
 
-use basics::{less, u16_at, wide, wider};
+use basics::u16_at;
 use value::{Signed, us_value};
 
 // The size of a frame, the bytes of a sample and the bits stored in it.
@@ -55,15 +55,12 @@ pub fn is_frame(g: Geometry, pixels: &[u8], k: usize) -> bool
     requires { SmallProducts g k }
     ensures { result ≡ is_frame g pixels.now k }
 {
-    if 1 <= k {
-        k * (g.rows * g.columns) * g.width <= pixels.len()
-    } else {
-        false
-    }
+    1 <= k && k * (g.rows * g.columns) * g.width <= pixels.len()
 }
 
 // ---- Samples
 
+// 2^n; `window::power` promises bounds beside it, up to n = 17.
 pub fn power(n: usize) -> usize
     requires { n ≤ 16 }
     ensures { result ≡ 2 ^ n }
@@ -77,7 +74,7 @@ pub fn sample(pixels: &[u8], g: Geometry, low: usize, j: usize) -> usize
     ensures { (result ≡ cell_at g pixels.now j) × (result ≤ low) }
 {
     if g.width == 1 {
-        wide(pixels[j]) & low
+        usize::from(pixels[j]) & low
     } else {
         u16_at(pixels, 2 * j) & low
     }
@@ -98,22 +95,16 @@ pub fn plain_row(line: &[u8], g: Geometry, table: &[u8], levels: &mut [u8])
 
 // ---- Moves
 
-fn at_most(i: usize, most: usize) -> usize
-    ensures { result ≡ min i most }
-{
-    if i <= most { i } else { most }
-}
-
 // The offset of a move, in quarters: the largest move minus the move, since a move down or to the right takes samples from above or from
 // the left.
-pub fn offset_of(m: Signed) -> usize
+pub fn offset_of(m: Option<Signed>) -> usize
     requires { SizeBelow too_far m }
     ensures { OffsetOf m result }
 {
     match m {
-        Signed::Plus(n) => LARGEST_MOVE - n,
-        Signed::Minus(n) => LARGEST_MOVE + n,
-        Signed::None => LARGEST_MOVE,
+        Some(Signed::Plus(n)) => LARGEST_MOVE - n,
+        Some(Signed::Minus(n)) => LARGEST_MOVE + n,
+        None => LARGEST_MOVE,
     }
 }
 
@@ -122,7 +113,7 @@ pub fn moved(s: usize, size: usize, i: usize) -> usize
     requires { (i < size) × ((size ≤ largest_side) × (s ≤ edges)) }
     ensures { (result ≡ shifted s size i) × (result < size) }
 {
-    at_most(less(i + s, MARGIN), size - 1)
+    (i + s).saturating_sub(MARGIN).min(size - 1)
 }
 
 // ---- Sums of a row
@@ -158,9 +149,7 @@ fn sum_row(pixels: &[u8], g: Geometry, masks: &[u8], row: usize, sums: &mut [u32
     let n = g.rows * columns;
     let at = row * columns;
     fill(0, columns, 0, sums);
-    let mut k = masks.len() / 2;
-    while 0 < k {
-        k -= 1;
+    for k in (0..masks.len() / 2).rev() {
         add_row(pixels, g, (us_value(masks, k) - 1) * n + at, sums);
     }
 }
@@ -183,8 +172,7 @@ pub fn mask_row(pixels: &[u8], g: Geometry, masks: &[u8], row: usize, sums: &mut
     requires { Shaped g × (Masks pixels.now g masks.now × ((row < g.rows) × (g.columns + edges ≤ length sums.old))) }
     ensures { Spread pixels.now g (us_values masks.now) row sums.new }
 {
-    let margin = MARGIN;
-    sum_row(pixels, g, masks, row, &mut sums[margin..]);
+    sum_row(pixels, g, masks, row, &mut sums[MARGIN..]);
     spread(g.columns, sums);
 }
 
@@ -215,7 +203,7 @@ pub fn draw_row(
     let low = power(g.stored) - 1;
     let factor = SCALE / (2 * n) + 1;
     for c in 0..columns {
-        let mask = average(wider(sums[c + s]), n, factor);
+        let mask = average(sums[c + s] as usize, n, factor);
         levels[c] = table[sample(line, g, low, c) + low - mask];
     }
 }
@@ -230,7 +218,7 @@ fn average_all(n: usize, count: usize, sums: &mut [u32])
 {
     let factor = SCALE / (2 * n) + 1;
     for j in 0..count {
-        sums[j] = average(wider(sums[j]), n, factor) as u32;
+        sums[j] = average(sums[j] as usize, n, factor) as u32;
     }
 }
 
@@ -248,9 +236,7 @@ pub fn copy(count: usize, from: &[u32], to: &mut [u32])
     requires { (count ≤ length from.now) × (count ≤ length to.old) }
     ensures { to.new ≡ painted (λ j. get_or from.now j 0) count to.old }
 {
-    for j in 0..count {
-        to[j] = from[j];
-    }
+    to[..count].copy_from_slice(&from[..count]);
 }
 
 // The four weights, in reading order, for a quarters down and b to the right.
@@ -306,6 +292,6 @@ pub fn masked_row(
     let columns = g.columns;
     let low = power(g.stored) - 1;
     for c in 0..columns {
-        levels[c] = table[sample(line, g, low, c) + low - wider(masks[s + c])];
+        levels[c] = table[sample(line, g, low, c) + low - masks[s + c] as usize];
     }
 }

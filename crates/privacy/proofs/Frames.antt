@@ -1,4 +1,5 @@
 -- Rules 27 to 37 and 39 say the same of lists of nodes that are alike.
+use Rattle.std.specs.Prelude.{Option, Some, None}
 use mathlib.Core.Path.{◌≡◌, refl, ap}
 use Prim.Native.Nat.{ℕ}
 use mathlib.Core.Bool.{Bool, true, false, cond, ◌&&◌}
@@ -7,8 +8,6 @@ use lib.Dec.{eqb}
 use Rattle.basics.specs.Vr.{SQ, DS, US, FL, OW}
 use Rattle.value.specs.Text.{ascii}
 use Rattle.value.specs.Number.{us_of, number_or0}
-use Rattle.value.specs.declared.Num.{Num}
-use Rattle.value.specs.declared.Num.TheVariants.{Is, None}
 use Rattle.shift.specs.Shift.{is_frame_shift}
 use Rattle.node.specs.Nodes.{Node, node_at, root, inside}
 use Rattle.node.specs.Find.{holds, if_present, absent, and_then, find, find_vr, of_vr, filled}
@@ -142,12 +141,12 @@ module _ {ns ms : List Node} (a : Alike ns ms) where
   unfolding rule32
   rule32-same = rw (frames-same a) (holds_same (frames_of ms) _ _ (λ n _. every-mask (range_fits ns n) (range_fits ms n) (rule-range-same n)))
 
-  one-value-same : (j k : ℕ) → find ns Tags.ContrastFrameAveraging (inside ms j) ≡ Is k → is_one ns k ≡ is_one ms k
+  one-value-same : (j k : ℕ) → find ns Tags.ContrastFrameAveraging (inside ms j) ≡ Some k → is_one ns k ≡ is_one ms k
   unfolding is_one of_vr is_read
   one-value-same j k e = rw (a.vr k) (go (eqb (node_at ms k).vr US))
     where
-      go : (b : Bool) → holds (and_then (cond b (Is k) None) (λ i. us_of (value_at ns i))) (λ x. eqb x 1)
-          ≡ holds (and_then (cond b (Is k) None) (λ i. us_of (value_at ms i))) (λ x. eqb x 1)
+      go : (b : Bool) → holds (and_then (cond b (Some k) None) (λ i. us_of (value_at ns i))) (λ x. eqb x 1)
+          ≡ holds (and_then (cond b (Some k) None) (λ i. us_of (value_at ms i))) (λ x. eqb x 1)
       go true = rw (value_same a Tags.ContrastFrameAveraging refl (inside ms j) k e)
       go false = refl
 
@@ -198,13 +197,13 @@ module _ {ns ms : List Node} (a : Alike ns ms) where
   shift-had s i = rw (group-same a Tags.FramePixelShiftSequence s i) (go (group_of ms Tags.FramePixelShiftSequence s i))
     where
       on : (g : ℕ) (b : Bool) → eqb (node_at ms g).vr SQ ≡ b
-          → holds (cond b (Is g) None) (filled ns) ≡ holds (cond b (Is g) None) (filled ms)
+          → holds (cond b (Some g) None) (filled ns) ≡ holds (cond b (Some g) None) (filled ms)
       on g true e = rw (a.vr g, a.descendants g, e)
       on g false e = refl
 
-      go : (o : Num) → holds (and_then o (of_vr ns SQ)) (filled ns) ≡ holds (and_then o (of_vr ms SQ)) (filled ms)
+      go : (o : Option ℕ) → holds (and_then o (of_vr ns SQ)) (filled ns) ≡ holds (and_then o (of_vr ms SQ)) (filled ms)
       go None = refl
-      go (Is g) = rw (a.vr g) (on g (eqb (node_at ms g).vr SQ) refl)
+      go (Some g) = rw (a.vr g) (on g (eqb (node_at ms g).vr SQ) refl)
 
   pub rule36-same : rule36 ns ≡ rule36 ms
   unfolding rule36 any_shift masks_have_ids

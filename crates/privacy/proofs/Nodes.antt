@@ -4,7 +4,7 @@ use Prim.Native.Nat.{ℕ, zero, suc}
 use mathlib.Core.Bool.{true}
 use mathlib.Core.List.{List, [], ◌∷◌, map}
 use lib.ListN.{length, length-map, get_or}
-use Rattle.dataset.specs.Reading.{Row}
+use Rattle.dataset.specs.declared.Row.{Row}
 use Rattle.dataset.specs.Tree.{rows_of, row_at, no_row}
 use Rattle.node.specs.Nodes.{Node, node_of, nodes_of, node_at, no_node, value_in}
 use Rattle.basics.specs.Tags

@@ -1,8 +1,10 @@
 -- Both data sets are worked out; what is the same of both follows from `privacy`.
+use Rattle.std.specs.Prelude.{Result}
 use mathlib.Core.Path.{◌≡◌, refl, sym, ap, ◌∙◌}
 use mathlib.Core.List.{[], ◌∷◌}
 use Rattle.dataset.specs.Tree.{rows_of}
-use Rattle.conformance.specs.declared.JudgeAnswer.{JudgeAnswer}
+use Rattle.conformance.specs.declared.Outcome.{Outcome}
+use Rattle.dataset.specs.declared.ReadError.{ReadError}
 use Rattle.conformance.specs.Judging.{judge_of, fields_of}
 use Rattle.display.specs.Show.{show_of, image_of}
 use Rattle.display.specs.Show as show
@@ -38,7 +40,7 @@ pair =
       sizes = sizes.0;
       other-sizes = sizes.1;
       accepted = drawn.0;
-      other-accepted = ap (λ (x : JudgeAnswer). (fields_of x).code) (sym (same.alike.judged buffer)) ∙ drawn.0;
+      other-accepted = ap (λ (x : Result Outcome ReadError). (fields_of x).code) (sym (same.alike.judged buffer)) ∙ drawn.0;
       drawn = drawn.1.0;
       picture = drawn.1.1;
       other-picture = sym (same.alike.picture 1 buffer image) ∙ drawn.1.1;

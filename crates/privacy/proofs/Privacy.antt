@@ -1,21 +1,22 @@
 -- None of the four tags is among those whose values are read, so the nodes of the two data sets are alike, and every call answers the same.
+use Rattle.std.specs.Prelude.{Result}
 use mathlib.Core.Path.{◌≡◌, refl, sym, ap, ◌∙◌}
 use Prim.Native.Nat.{ℕ}
-use native.Mathlib.Omega.{arith}
-use mathlib.Core.Bool.{Bool, true, false, cond, not, ◌&&◌, ◌||◌}
+use mathlib.Core.Bool.{Bool, true, false, cond, not, ◌&&◌, ◌||◌, false≢true}
 use mathlib.Core.List.{List, [], ◌∷◌}
 use lib.ListN.{length}
 use lib.Dec.{eqb}
 use borrow.Author.Tests.{eqb-true}
-use Rattle.dataset.specs.Reading.{Row}
+use Rattle.dataset.specs.declared.Row.{Row}
 use Rattle.dataset.specs.Tree.{row_at}
 use Rattle.node.specs.Nodes.{nodes_of, value_in}
 use Rattle.basics.specs.Tags
 use Rattle.element.specs.Elements.{every}
 use Rattle.rules.specs.Frame.{is_in}
 use Rattle.slip.specs.Slip.{slip_of}
-use Rattle.conformance.specs.Judging.{judge_of, verdict_of}
-use Rattle.conformance.specs.declared.JudgeAnswer.{JudgeAnswer}
+use Rattle.conformance.specs.Judging.{judge_of, accept_of, verdict_of}
+use Rattle.conformance.specs.declared.Outcome.{Outcome}
+use Rattle.dataset.specs.declared.ReadError.{ReadError}
 use Rattle.display.specs.Show.{show_of, image_of}
 use Rattle.linear.specs.Answer.{linear_of, values_left}
 use Rattle.sheet.specs.Answer.{sheet_of}
@@ -37,13 +38,13 @@ use Rattle.privacy.proofs.Mapped.{linear-same, entries-same}
 -- What is in a list has not what none in the list has.
 none_in : (p : ℕ → Bool) (l : List ℕ) → every (λ x. not (p x)) l ≡ true → (tag : ℕ) → is_in tag l ≡ true → p tag ≡ false
 unfolding every
-none_in p [] e tag q = let z : ◌≡◌ {A = ℕ} 0 1 = ap (λ (c : Bool). cond c 1 0) q in absurd (omega (arith, z))
+none_in p [] e tag q = absurd (false≢true q)
 none_in p (x ∷ l) e tag q = go (none_in p l) (eqb tag x) refl (p x) refl e q
   where
     go : (every (λ y. not (p y)) l ≡ true → (k : ℕ) → is_in k l ≡ true → p k ≡ false)
         → (b : Bool) → eqb tag x ≡ b → (d : Bool) → p x ≡ d → (not d && every (λ y. not (p y)) l) ≡ true → (b || is_in tag l) ≡ true
         → p tag ≡ false
-    go rest b f true g e q = let z : ◌≡◌ {A = ℕ} 0 1 = ap (λ (c : Bool). cond c 1 0) e in absurd (omega (arith, z))
+    go rest b f true g e q = absurd (false≢true e)
     go rest true f false g e q = ap p (eqb-true tag x f) ∙ g
     go rest false f false g e q = rest e tag q
 
@@ -99,7 +100,7 @@ module _ (s t : List ℕ) (p : SameButPatient s t) where
 
   show-same : (frame : ℕ) (buffer image : List ℕ) → show_of s frame buffer image ≡ show_of t frame buffer image
   unfolding show_of
-  show-same frame buffer image = rw (judged-same buffer) (shown-same a b frame image (judge_of t buffer))
+  show-same frame buffer image = rw (judged-same buffer) (shown-same a b frame image (accept_of t buffer))
 
   image-same : (frame : ℕ) (buffer image : List ℕ) → image_of s frame buffer image ≡ image_of t frame buffer image
   unfolding image_of
@@ -107,16 +108,16 @@ module _ (s t : List ℕ) (p : SameButPatient s t) where
 
   sheet-same : (first last : ℕ) (buffer : List ℕ) → sheet_of s first last buffer ≡ sheet_of t first last buffer
   unfolding sheet_of
-  sheet-same first last buffer = rw (judged-same buffer) (sampled-same a b first last (judge_of t buffer))
+  sheet-same first last buffer = rw (judged-same buffer) (sampled-same a b first last (accept_of t buffer))
 
   comparison-same : (frame : ℕ) (cells : List ℕ) (tolerance : ℕ) (buffer : List ℕ)
       → compare_of s frame cells tolerance buffer ≡ compare_of t frame cells tolerance buffer
   unfolding compare_of
-  comparison-same frame cells tolerance buffer = rw (judged-same buffer) (compared_same a b frame cells tolerance (judge_of t buffer))
+  comparison-same frame cells tolerance buffer = rw (judged-same buffer) (compared_same a b frame cells tolerance (accept_of t buffer))
 
   mapped-same : (frame : ℕ) (buffer values : List ℕ) → linear_of s frame buffer values ≡ linear_of t frame buffer values
   unfolding linear_of
-  mapped-same frame buffer values = rw (judged-same buffer) (linear-same a frame values (judge_of t buffer))
+  mapped-same frame buffer values = rw (judged-same buffer) (linear-same a frame values (accept_of t buffer))
 
   values_same : (frame : ℕ) (buffer values : List ℕ) → values_left s frame buffer values ≡ values_left t frame buffer values
   unfolding values_left
@@ -133,7 +134,7 @@ module _ (s t : List ℕ) (p : SameButPatient s t) where
           sampled = sheet-same;
           compared = comparison-same;
         };
-        slip = λ buffer. ap (λ (r : JudgeAnswer). slip_of (verdict_of r)) (judged-same buffer);
+        slip = λ buffer. ap (λ (r : Result Outcome ReadError). slip_of (verdict_of r)) (judged-same buffer);
         mapped = mapped-same;
         intensities = values_same;
       }

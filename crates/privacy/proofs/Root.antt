@@ -1,4 +1,5 @@
 -- Rules 1 to 26 and 38 say the same of lists of nodes that are alike.
+use Rattle.std.specs.Prelude.{Some}
 use mathlib.Core.Path.{◌≡◌, refl, ap}
 use Prim.Native.Nat.{ℕ}
 use mathlib.Core.Bool.{Bool, cond}
@@ -6,7 +7,6 @@ use mathlib.Core.List.{List}
 use Rattle.basics.specs.Vr.{SQ, CS, DS, DT, FD}
 use Rattle.value.specs.Text.{ascii}
 use Rattle.value.specs.Words.{word_at}
-use Rattle.value.specs.declared.Num.TheVariants.{Is}
 use Rattle.node.specs.Nodes.{Node, root}
 use Rattle.node.specs.Find.{absent, find, find_vr}
 use Rattle.basics.specs.Tags
@@ -197,7 +197,7 @@ module _ {ns ms : List Node} (a : Alike ns ms) where
       (holds_same (find_vr ms Tags.PerFrameFunctionalGroupsSequence SQ (root ms)) _ _ (λ p _. rw (inside-same a p)))
 
   -- Of Pixel Data the length is read.
-  pixel-data-same : (n r c b p : ℕ) → find ns Tags.PixelData (root ns) ≡ Is p → is_pixel_data ns n r c b p ≡ is_pixel_data ms n r c b p
+  pixel-data-same : (n r c b p : ℕ) → find ns Tags.PixelData (root ns) ≡ Some p → is_pixel_data ns n r c b p ≡ is_pixel_data ms n r c b p
   unfolding is_pixel_data
   pixel-data-same n r c b p e = rw (a.vr p, a.long p (find-tag a Tags.PixelData (root ns) p e))
 

@@ -1,12 +1,11 @@
 -- Nodes that are alike and have the same Pixel Data have the same sheets, which are made of pictures alone.
+use Rattle.std.specs.Prelude.{Result, Ok, Err}
 use mathlib.Core.Path.{◌≡◌, refl}
 use Prim.Native.Nat.{ℕ, zero, suc, ◌+◌, ◌-◌}
 use mathlib.Core.List.{List}
 use Rattle.node.specs.Nodes.{Node}
-use Rattle.conformance.specs.declared.JudgeAnswer.{JudgeAnswer}
-use Rattle.conformance.specs.declared.JudgeAnswer.TheVariants as judged
-use Rattle.sheet.specs.declared.SheetAnswer.{SheetAnswer}
-use Rattle.sheet.specs.declared.SheetAnswer.TheVariants as answer
+use Rattle.conformance.specs.declared.NotAccepted.{NotAccepted}
+use Rattle.sheet.specs.declared.SheetError.{SheetError}
 use Rattle.sheet.specs.Sheet.{levels_of, natives_of, frames_sheet}
 use Rattle.sheet.specs.Answer.{accepted_answer, answer_for, sheet_for, with_sheet}
 use Rattle.privacy.specs.Alike.{Alike, SamePixels}
@@ -31,21 +30,13 @@ module _ {ns ms : List Node} (a : Alike ns ms) (b : SamePixels ns ms) where
   unfolding accepted_answer
   sheet-accepted-same f l n = rw (is-frame-same a f, is-frame-same a l)
 
-  answer-same : (f l : ℕ) (r : JudgeAnswer) → answer_for ns f l r ≡ answer_for ms f l r
-  answer-same f l (judged.Accepted n) = sheet-accepted-same f l n
-  answer-same f l (judged.Broken n rule frame) = refl
-  answer-same f l (judged.Refused code offset) = refl
-  answer-same f l judged.TooLarge = refl
-  answer-same f l judged.NoRoom = refl
+  answer-same : (f l : ℕ) (r : Result ℕ NotAccepted) → answer_for ns f l r ≡ answer_for ms f l r
+  answer-same f l (Ok n) = sheet-accepted-same f l n
+  answer-same f l (Err e) = refl
 
-  numbers-same : (f l : ℕ) (r : SheetAnswer) → sheet_for ns f l r ≡ sheet_for ms f l r
-  numbers-same f l (answer.Done n) = sheet-same f l
-  numbers-same f l (answer.Broken n rule frame) = refl
-  numbers-same f l (answer.Refused code offset) = refl
-  numbers-same f l answer.TooLarge = refl
-  numbers-same f l answer.NoRoom = refl
-  numbers-same f l answer.WrongOrder = refl
-  numbers-same f l answer.NoFrame = refl
+  numbers-same : (f l : ℕ) (r : Result ℕ SheetError) → sheet_for ns f l r ≡ sheet_for ms f l r
+  numbers-same f l (Ok n) = sheet-same f l
+  numbers-same f l (Err e) = refl
 
-  pub sampled-same : (f l : ℕ) (r : JudgeAnswer) → with_sheet ns f l (answer_for ns f l r) ≡ with_sheet ms f l (answer_for ms f l r)
+  pub sampled-same : (f l : ℕ) (r : Result ℕ NotAccepted) → with_sheet ns f l (answer_for ns f l r) ≡ with_sheet ms f l (answer_for ms f l r)
   sampled-same f l r = rw (answer-same f l r, numbers-same f l (answer_for ms f l r))

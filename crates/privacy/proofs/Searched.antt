@@ -1,11 +1,10 @@
 -- The searches that judging is said to make look at tags and at the nodes below alone: their sum is the same of lists of nodes that are
 -- alike.
+use Rattle.std.specs.Prelude.{Option, Some, None}
 use mathlib.Core.Path.{◌≡◌, refl}
 use Prim.Native.Nat.{ℕ}
 use mathlib.Core.List.{List, [], ◌∷◌}
 use lib.Dec.{leb}
-use Rattle.value.specs.declared.Num.{Num}
-use Rattle.value.specs.declared.Num.TheVariants.{Is, None}
 use Rattle.node.specs.Nodes.{Node, node_at, root, inside}
 use Rattle.node.specs.Find.{or_else, find}
 use Rattle.element.specs.Elements.{inside_of}
@@ -82,9 +81,9 @@ module _ {ns ms : List Node} (a : Alike ns ms) where
   frames-sum-same s [] = refl
   frames-sum-same s (i ∷ is) = rw (inside-same a i, inside-same a s, groups-sum-same frame_searches s i, frames-sum-same s is)
 
-  over-same : (o : Num) → over_frames ns o ≡ over_frames ms o
+  over-same : (o : Option ℕ) → over_frames ns o ≡ over_frames ms o
   over-same None = refl
-  over-same (Is s) = rw (frame-items-same a) (frames-sum-same s (frame_items ms))
+  over-same (Some s) = rw (frame-items-same a) (frames-sum-same s (frame_items ms))
 
   pub searches-same : searches_of ns ≡ searches_of ms
   unfolding searches_of

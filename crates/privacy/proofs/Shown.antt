@@ -1,11 +1,11 @@
 -- Nodes that are alike and have the same Pixel Data are drawn the same, since every step reads nodes alone.
+use Rattle.std.specs.Prelude.{Result, Ok, Err}
 use mathlib.Core.Path.{◌≡◌, refl}
 use Prim.Native.Nat.{ℕ}
 use mathlib.Core.List.{List}
 use Rattle.node.specs.Nodes.{Node}
 use Rattle.basics.specs.Tags
-use Rattle.conformance.specs.declared.JudgeAnswer.{JudgeAnswer}
-use Rattle.conformance.specs.declared.JudgeAnswer.TheVariants as judged
+use Rattle.conformance.specs.declared.NotAccepted.{NotAccepted}
 use Rattle.display.specs.Show.{is_frame_of, image_size, picture_of, accepted_answer, answer_for}
 use Rattle.privacy.specs.Read.{is_read}
 use Rattle.privacy.specs.Alike.{Alike, SamePixels}
@@ -29,9 +29,6 @@ module _ {ns ms : List Node} (a : Alike ns ms) where
     unfolding accepted_answer
     show-accepted-same f image n = rw (is-frame-same f, size_same, picture-same f)
 
-    pub shown-same : (f : ℕ) (image : List ℕ) (r : JudgeAnswer) → answer_for ns f image r ≡ answer_for ms f image r
-    shown-same f image (judged.Accepted n) = show-accepted-same f image n
-    shown-same f image (judged.Broken n rule frame) = refl
-    shown-same f image (judged.Refused code offset) = refl
-    shown-same f image judged.TooLarge = refl
-    shown-same f image judged.NoRoom = refl
+    pub shown-same : (f : ℕ) (image : List ℕ) (r : Result ℕ NotAccepted) → answer_for ns f image r ≡ answer_for ms f image r
+    shown-same f image (Ok n) = show-accepted-same f image n
+    shown-same f image (Err e) = refl

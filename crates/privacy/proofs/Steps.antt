@@ -1,23 +1,19 @@
 -- The drawing steps and the mapping give the same of lists of nodes that are alike and have the same Pixel Data.
+use Rattle.std.specs.Prelude.{Option, Some, None}
 use mathlib.Core.Path.{◌≡◌, refl, ap}
 use Prim.Native.Nat.{ℕ}
 use mathlib.Core.Bool.{cond, ◌&&◌}
 use mathlib.Core.List.{List, [], ◌∷◌}
-use mathlib.Core.Option.{Option, none, some}
 use lib.ListN.{length}
 use lib.Dec.{eqb, leb}
 use Rattle.basics.specs.Vr.{SQ, CS, DS, FL, OW, US}
 use Rattle.value.specs.Text.{ascii}
-use Rattle.value.specs.declared.Num.{Num}
-use Rattle.value.specs.declared.Num.TheVariants.{Is, None}
 use Rattle.node.specs.Nodes.{Node, node_at, root, inside}
 use Rattle.node.specs.Find.{find, find_vr}
 use Rattle.basics.specs.Tags
 use Rattle.element.specs.Elements.{the_item}
 use Rattle.element.specs.Frames.{shared_item, frame_item, id_in, operation_is}
 use Rattle.pixel.specs.Pixel.{is_frame}
-use Rattle.steps.specs.declared.Applying.{Applying}
-use Rattle.steps.specs.declared.Applying.TheVariants.{Item, Nothing}
 use Rattle.steps.specs.Given.{need, check, then}
 use Rattle.steps.specs.Steps.{Mask, native, masked, geometry_of, pixels_of, or_shared, group_for, range_has, range_holds, first_holding, on_mask}
 use Rattle.steps.specs.Steps.{applying_to, average_frames, offset_at, offset_of, tid_frame, naming, own_in, item_shift_at, shift_from, shift_for}
@@ -30,14 +26,14 @@ use Rattle.privacy.proofs.Words.{the_same, frames-same, shared_same, item-same, 
 use Rattle.privacy.proofs.Frames.{among_same}
 
 module _ {A : Type 0} where
-  need-same : (o : Num) (p q : ℕ → Option A) → ((i : ℕ) → o ≡ Is i → p i ≡ q i) → need o p ≡ need o q
+  need-same : (o : Option ℕ) (p q : ℕ → Option A) → ((i : ℕ) → o ≡ Some i → p i ≡ q i) → need o p ≡ need o q
   need-same None p q h = refl
-  need-same (Is i) p q h = h i refl
+  need-same (Some i) p q h = h i refl
 
   module _ {B : Type 0} where
     then_same : (o : Option B) (p q : B → Option A) → ((b : B) → p b ≡ q b) → then o p ≡ then o q
-    then_same none p q h = refl
-    then_same (some b) p q h = h b
+    then_same None p q h = refl
+    then_same (Some b) p q h = h b
 
 module _ {ns ms : List Node} (a : Alike ns ms) where
   -- ---- What the steps read
@@ -63,9 +59,9 @@ module _ {ns ms : List Node} (a : Alike ns ms) where
       rw (item-same a f)
       (need-same (frame_item ms f) _ _ (λ i _. rw (inside-same a i, find-same a tag (inside ms i)) (go (find ms tag (inside ms i)))))
     where
-      go : (o : Num) → or_shared ns tag o ≡ or_shared ms tag o
+      go : (o : Option ℕ) → or_shared ns tag o ≡ or_shared ms tag o
       go None = rw (shared_same a) (need-same (shared_item ms) _ _ (λ s _. rw (inside-same a s, find-same a tag (inside ms s))))
-      go (Is g) = refl
+      go (Some g) = refl
 
   -- ---- Step 2
 
@@ -74,9 +70,9 @@ module _ {ns ms : List Node} (a : Alike ns ms) where
   step-range-same f j = rw (inside-same a j, ← find-same a Tags.ApplicableFrameRange (inside ms j))
       (go (find ns Tags.ApplicableFrameRange (inside ms j)) refl)
     where
-      go : (o : Num) → find ns Tags.ApplicableFrameRange (inside ms j) ≡ o → range_has ns f o ≡ range_has ms f o
+      go : (o : Option ℕ) → find ns Tags.ApplicableFrameRange (inside ms j) ≡ o → range_has ns f o ≡ range_has ms f o
       go None e = refl
-      go (Is r) e = rw (a.vr r, value_same a Tags.ApplicableFrameRange refl (inside ms j) r e)
+      go (Some r) e = rw (a.vr r, value_same a Tags.ApplicableFrameRange refl (inside ms j) r e)
 
   holding-same : (f : ℕ) (js : List ℕ) → first_holding ns f js ≡ first_holding ms f js
   unfolding first_holding
@@ -87,9 +83,9 @@ module _ {ns ms : List Node} (a : Alike ns ms) where
   unfolding applying_to
   applying-same f = rw (find-root a Tags.MaskSubtractionSequence) (go (find ms Tags.MaskSubtractionSequence (root ms)))
     where
-      go : (o : Num) → on_mask ns f o ≡ on_mask ms f o
+      go : (o : Option ℕ) → on_mask ns f o ≡ on_mask ms f o
       go None = refl
-      go (Is m) = rw (a.vr m, inside-same a m, holding-same f (inside ms m))
+      go (Some m) = rw (a.vr m, inside-same a m, holding-same f (inside ms m))
 
   -- ---- Step 3
 
@@ -104,9 +100,9 @@ module _ {ns ms : List Node} (a : Alike ns ms) where
   unfolding offset_of is_read
   step-offset-same j = rw (inside-same a j, ← find-same a Tags.TIDOffset (inside ms j)) (go (find ns Tags.TIDOffset (inside ms j)) refl)
     where
-      go : (o : Num) → find ns Tags.TIDOffset (inside ms j) ≡ o → offset_at ns o ≡ offset_at ms o
+      go : (o : Option ℕ) → find ns Tags.TIDOffset (inside ms j) ≡ o → offset_at ns o ≡ offset_at ms o
       go None e = refl
-      go (Is r) e = rw (a.vr r, value_same a Tags.TIDOffset refl (inside ms j) r e)
+      go (Some r) e = rw (a.vr r, value_same a Tags.TIDOffset refl (inside ms j) r e)
 
   tid-same : (f j : ℕ) → tid_frame ns f j ≡ tid_frame ms f j
   unfolding tid_frame
@@ -119,22 +115,22 @@ module _ {ns ms : List Node} (a : Alike ns ms) where
   naming-same id [] = refl
   naming-same id (k ∷ ks) = rw (id_same a k, naming-same id ks)
 
-  own_same : (j : ℕ) (o : Num) → own_in ns j o ≡ own_in ms j o
+  own_same : (j : ℕ) (o : Option ℕ) → own_in ns j o ≡ own_in ms j o
   own_same j None = refl
-  own_same j (Is g) =
+  own_same j (Some g) =
       rw (a.vr g, inside-same a g, id_same a j)
-      (ap (λ (x : Option Num). check (eqb (node_at ms g).vr SQ && leb 1 (length (inside ms g))) x)
+      (ap (λ (x : Option (Option ℕ)). check (eqb (node_at ms g).vr SQ && leb 1 (length (inside ms g))) x)
       (need-same (id_in ms j) _ _ (λ id _. naming-same id (inside ms g))))
 
-  shift-from-same : (j : ℕ) (o : Num) → shift_from ns j o ≡ shift_from ms j o
+  shift-from-same : (j : ℕ) (o : Option ℕ) → shift_from ns j o ≡ shift_from ms j o
   unfolding is_read
   shift-from-same j None = rw (inside-same a j, ← find-same a Tags.MaskSubPixelShift (inside ms j))
       (go (find ns Tags.MaskSubPixelShift (inside ms j)) refl)
     where
-      go : (o : Num) → find ns Tags.MaskSubPixelShift (inside ms j) ≡ o → item_shift_at ns o ≡ item_shift_at ms o
+      go : (o : Option ℕ) → find ns Tags.MaskSubPixelShift (inside ms j) ≡ o → item_shift_at ns o ≡ item_shift_at ms o
       go None e = refl
-      go (Is r) e = rw (a.vr r, value_same a Tags.MaskSubPixelShift refl (inside ms j) r e)
-  shift-from-same j (Is k) =
+      go (Some r) e = rw (a.vr r, value_same a Tags.MaskSubPixelShift refl (inside ms j) r e)
+  shift-from-same j (Some k) =
       rw (inside-same a k, ← vr-same a FL Tags.MaskSubPixelShift (inside ms k))
       (need-same (find_vr ns Tags.MaskSubPixelShift FL (inside ms k)) _ _
       (λ x e. rw (value-vr-same a Tags.MaskSubPixelShift refl (inside ms k) FL x e)))
@@ -161,22 +157,22 @@ module _ {ns ms : List Node} (a : Alike ns ms) where
         moves-same f j,
         tid-same f j,
       )
-      (ap (λ (x : Option Mask). cond (operation_is ms (ascii "NONE") j) (some native) (cond (operation_is ms (ascii "AVG_SUB") j)
-      (then (average_frames ms j) (λ ks. then (moves_for ms f j) (λ m. some (masked ks m))))
-      (cond (operation_is ms (ascii "TID") j) x none)))
+      (ap (λ (x : Option Mask). cond (operation_is ms (ascii "NONE") j) (Some native) (cond (operation_is ms (ascii "AVG_SUB") j)
+      (then (average_frames ms j) (λ ks. then (moves_for ms f j) (λ m. Some (masked ks m))))
+      (cond (operation_is ms (ascii "TID") j) x None)))
       (then_same (tid_frame ms f j) (on_tid ns f j) (on_tid ms f j) go))
     where
-      go : (o : Num) → on_tid ns f j o ≡ on_tid ms f j o
+      go : (o : Option ℕ) → on_tid ns f j o ≡ on_tid ms f j o
       go None = refl
-      go (Is k) = rw (moves-same f j)
+      go (Some k) = rw (moves-same f j)
 
   step-mask-same : (f : ℕ) → mask_for ns f ≡ mask_for ms f
   unfolding mask_for
   step-mask-same f = rw (applying-same f) (then_same (applying_to ms f) (mask_on ns f) (mask_on ms f) go)
     where
-      go : (o : Applying) → mask_on ns f o ≡ mask_on ms f o
-      go Nothing = refl
-      go (Item j) = mask-by-same f j
+      go : (o : Option ℕ) → mask_on ns f o ≡ mask_on ms f o
+      go None = refl
+      go (Some j) = mask-by-same f j
 
   -- ---- Steps 6 and 7
 
@@ -193,9 +189,9 @@ module _ {ns ms : List Node} (a : Alike ns ms) where
   step-window-same f stored = rw (group-for-same f Tags.FrameVOILUTSequence)
       (then_same (group_for ms f Tags.FrameVOILUTSequence) (window_on ns stored) (window_on ms stored) go)
     where
-      go : (o : Num) → window_on ns stored o ≡ window_on ms stored o
+      go : (o : Option ℕ) → window_on ns stored o ≡ window_on ms stored o
       go None = refl
-      go (Is g) = rw (the_same a g) (need-same (the_item ms g) _ _ (λ j _. rw (inside-same a j) (window-in-same (inside ms j))))
+      go (Some g) = rw (the_same a g) (need-same (the_item ms g) _ _ (λ j _. rw (inside-same a j) (window-in-same (inside ms j))))
 
   inverse-same : inverse_of ns ≡ inverse_of ms
   unfolding inverse_of is_read
@@ -218,9 +214,9 @@ module _ {ns ms : List Node} (a : Alike ns ms) where
       rw (group-for-same f Tags.PixelIntensityRelationshipLUTSequence)
       (then_same (group_for ms f Tags.PixelIntensityRelationshipLUTSequence) (linear_on ns) (linear_on ms) go)
     where
-      go : (o : Num) → linear_on ns o ≡ linear_on ms o
+      go : (o : Option ℕ) → linear_on ns o ≡ linear_on ms o
       go None = refl
-      go (Is g) = rw (a.vr g, inside-same a g, among_same a (inside ms g))
+      go (Some g) = rw (a.vr g, inside-same a g, among_same a (inside ms g))
 
   pub is-mapped-same : (f : ℕ) → has_linear_item ns f ≡ has_linear_item ms f
   unfolding has_linear_item

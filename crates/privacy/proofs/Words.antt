@@ -1,14 +1,12 @@
 -- The words in which rules and steps are written say the same of lists of nodes that are alike: they look at tags, VRs and the nodes
 -- below, and at values of tags that are read.
+use Rattle.std.specs.Prelude.{Option, Some, None}
 use mathlib.Core.Path.{◌≡◌, refl, ap, ◌∙◌, subst}
 use Prim.Native.Nat.{ℕ, zero, suc}
-use native.Mathlib.Omega.{arith}
 use mathlib.Core.Bool.{Bool, true, false, cond}
 use mathlib.Core.List.{List, [], ◌∷◌, map}
 use lib.Dec.{eqb}
 use borrow.Author.Tests.{eqb-true}
-use Rattle.value.specs.declared.Num.{Num}
-use Rattle.value.specs.declared.Num.TheVariants.{Is, None}
 use Rattle.value.specs.Words.{is_word, is_uid}
 use Rattle.value.specs.Number.{us_of, integer_of}
 use Rattle.basics.specs.Vr.{SQ, CS, UI, US, IS}
@@ -17,22 +15,23 @@ use Rattle.node.specs.Find.{holds, if_present, and_then, find, of_vr, find_vr, f
 use Rattle.basics.specs.Tags
 use Rattle.element.specs.Elements.{value_at, us_in, cs_is, ui_is, one_item, the_item, inside_of, items_in, every, some, function_on, function_in}
 use Rattle.element.specs.Frames.{as_count, frames_of, shared_item, frame_items, frame_item, group_of, mask_items, operation_is, id_in}
+use Rattle.steps.proofs.Given.{never}
 use Rattle.privacy.specs.Read.{is_read}
 use Rattle.privacy.specs.Alike.{Alike}
 
 -- ---- Tests that agree where something is there
 
-pub holds_same : (o : Num) (p q : ℕ → Bool) → ((i : ℕ) → o ≡ Is i → p i ≡ q i) → holds o p ≡ holds o q
+pub holds_same : (o : Option ℕ) (p q : ℕ → Bool) → ((i : ℕ) → o ≡ Some i → p i ≡ q i) → holds o p ≡ holds o q
 holds_same None p q h = refl
-holds_same (Is i) p q h = h i refl
+holds_same (Some i) p q h = h i refl
 
-pub if-same : (o : Num) (p q : ℕ → Bool) → ((i : ℕ) → o ≡ Is i → p i ≡ q i) → if_present o p ≡ if_present o q
+pub if-same : (o : Option ℕ) (p q : ℕ → Bool) → ((i : ℕ) → o ≡ Some i → p i ≡ q i) → if_present o p ≡ if_present o q
 if-same None p q h = refl
-if-same (Is i) p q h = h i refl
+if-same (Some i) p q h = h i refl
 
-pub and_same : (o : Num) (p q : ℕ → Num) → ((i : ℕ) → o ≡ Is i → p i ≡ q i) → and_then o p ≡ and_then o q
+pub and_same : (o : Option ℕ) (p q : ℕ → Option ℕ) → ((i : ℕ) → o ≡ Some i → p i ≡ q i) → and_then o p ≡ and_then o q
 and_same None p q h = refl
-and_same (Is i) p q h = h i refl
+and_same (Some i) p q h = h i refl
 
 pub every-same : (p q : ℕ → Bool) → ((i : ℕ) → p i ≡ q i) → (l : List ℕ) → every p l ≡ every q l
 unfolding every
@@ -77,13 +76,13 @@ module _ {ns ms : List Node} (a : Alike ns ms) where
   pub find-root : (tag : ℕ) → find ns tag (root ns) ≡ find ms tag (root ms)
   find-root tag = rw root-same (find-same tag (root ms))
 
-  pub find-tag : (tag : ℕ) (is : List ℕ) (i : ℕ) → find ns tag is ≡ Is i → (node_at ns i).tag ≡ tag
+  pub find-tag : (tag : ℕ) (is : List ℕ) (i : ℕ) → find ns tag is ≡ Some i → (node_at ns i).tag ≡ tag
   unfolding find
-  find-tag tag [] i e = let z : ◌≡◌ {A = ℕ} 0 1 = cc in absurd (omega arith)
+  find-tag tag [] i e = absurd (never e)
   find-tag tag (j ∷ js) i e = go (λ t. find-tag tag js i t) (eqb (node_at ns j).tag tag) refl e
     where
-      go : (find ns tag js ≡ Is i → (node_at ns i).tag ≡ tag) → (b : Bool) → eqb (node_at ns j).tag tag ≡ b
-          → cond b (Is j) (find ns tag js) ≡ Is i → (node_at ns i).tag ≡ tag
+      go : (find ns tag js ≡ Some i → (node_at ns i).tag ≡ tag) → (b : Bool) → eqb (node_at ns j).tag tag ≡ b
+          → cond b (Some j) (find ns tag js) ≡ Some i → (node_at ns i).tag ≡ tag
       go r true t e = let z : j ≡ i = cc in subst (λ (k : ℕ). (node_at ns k).tag ≡ tag) z (eqb-true (node_at ns j).tag tag t)
       go r false t e = r e
 
@@ -91,45 +90,45 @@ module _ {ns ms : List Node} (a : Alike ns ms) where
   unfolding of_vr
   vr-same vr tag is = rw (find-same tag is) (go (find ms tag is))
     where
-      go : (o : Num) → and_then o (of_vr ns vr) ≡ and_then o (of_vr ms vr)
+      go : (o : Option ℕ) → and_then o (of_vr ns vr) ≡ and_then o (of_vr ms vr)
       go None = refl
-      go (Is i) = rw (a.vr i)
+      go (Some i) = rw (a.vr i)
 
   pub vr-root : (vr tag : ℕ) → find_vr ns tag vr (root ns) ≡ find_vr ms tag vr (root ms)
   vr-root vr tag = rw root-same (vr-same vr tag (root ms))
 
-  vr-tag : (tag vr : ℕ) (is : List ℕ) (i : ℕ) → find_vr ns tag vr is ≡ Is i → (node_at ns i).tag ≡ tag
+  vr-tag : (tag vr : ℕ) (is : List ℕ) (i : ℕ) → find_vr ns tag vr is ≡ Some i → (node_at ns i).tag ≡ tag
   unfolding of_vr
   vr-tag tag vr is i e = go (find ns tag is) refl e
     where
-      go : (o : Num) → find ns tag is ≡ o → and_then o (of_vr ns vr) ≡ Is i → (node_at ns i).tag ≡ tag
-      go None f e = let z : ◌≡◌ {A = ℕ} 0 1 = cc in absurd (omega arith)
-      go (Is j) f e = on (eqb (node_at ns j).vr vr) e
+      go : (o : Option ℕ) → find ns tag is ≡ o → and_then o (of_vr ns vr) ≡ Some i → (node_at ns i).tag ≡ tag
+      go None f e = absurd (never e)
+      go (Some j) f e = on (eqb (node_at ns j).vr vr) e
         where
-          on : (b : Bool) → cond b (Is j) None ≡ Is i → (node_at ns i).tag ≡ tag
-          on true e = let z : j ≡ i = cc in find-tag tag is i (f ∙ ap (λ (k : ℕ). Is k) z)
-          on false e = let z : ◌≡◌ {A = ℕ} 0 1 = cc in absurd (omega arith)
+          on : (b : Bool) → cond b (Some j) None ≡ Some i → (node_at ns i).tag ≡ tag
+          on true e = let z : j ≡ i = cc in find-tag tag is i (f ∙ ap (λ (k : ℕ). Some k) z)
+          on false e = absurd (never e)
 
   -- ---- The value of a tag that is read
 
   module _ (tag : ℕ) (q : is_read tag ≡ true) (is : List ℕ) where
-    pub value_same : (i : ℕ) → find ns tag is ≡ Is i → value_at ns i ≡ value_at ms i
+    pub value_same : (i : ℕ) → find ns tag is ≡ Some i → value_at ns i ≡ value_at ms i
     value_same i e = a.value i (rw (find-tag tag is i e) q)
 
-    pub value-vr-same : (vr i : ℕ) → find_vr ns tag vr is ≡ Is i → value_at ns i ≡ value_at ms i
+    pub value-vr-same : (vr i : ℕ) → find_vr ns tag vr is ≡ Some i → value_at ns i ≡ value_at ms i
     value-vr-same vr i e = a.value i (rw (vr-tag tag vr is i e) q)
 
     pub test-same : (vr : ℕ) (p : List ℕ → Bool)
         → holds (find_vr ns tag vr is) (λ i. p (value_at ns i)) ≡ holds (find_vr ms tag vr is) (λ i. p (value_at ms i))
     test-same vr p =
         holds_same (find_vr ns tag vr is) _ _ (λ i e. ap p (value-vr-same vr i e))
-        ∙ ap (λ (o : Num). holds o (λ i. p (value_at ms i))) (vr-same vr tag is)
+        ∙ ap (λ (o : Option ℕ). holds o (λ i. p (value_at ms i))) (vr-same vr tag is)
 
-    pub number_same : (vr : ℕ) (p : List ℕ → Num)
+    pub number_same : (vr : ℕ) (p : List ℕ → Option ℕ)
         → and_then (find_vr ns tag vr is) (λ i. p (value_at ns i)) ≡ and_then (find_vr ms tag vr is) (λ i. p (value_at ms i))
     number_same vr p =
         and_same (find_vr ns tag vr is) _ _ (λ i e. ap p (value-vr-same vr i e))
-        ∙ ap (λ (o : Num). and_then o (λ i. p (value_at ms i))) (vr-same vr tag is)
+        ∙ ap (λ (o : Option ℕ). and_then o (λ i. p (value_at ms i))) (vr-same vr tag is)
 
     pub us-same : us_in ns tag is ≡ us_in ms tag is
     us-same = number_same US us_of
@@ -144,7 +143,7 @@ module _ {ns ms : List Node} (a : Alike ns ms) where
     unfolding has filled
     has_same vr =
         holds_same (find_vr ns tag vr is) _ _ (λ i e. rw (value-vr-same vr i e, a.vr i, a.descendants i))
-        ∙ ap (λ (o : Num). holds o (filled ms)) (vr-same vr tag is)
+        ∙ ap (λ (o : Option ℕ). holds o (filled ms)) (vr-same vr tag is)
 
   -- The same in the root.
   module _ (tag : ℕ) (q : is_read tag ≡ true) where
@@ -174,9 +173,9 @@ module _ {ns ms : List Node} (a : Alike ns ms) where
   unfolding the_item
   the_same i = rw (one_same i, inside-same i)
 
-  pub inside-of-same : (o : Num) → inside_of ns o ≡ inside_of ms o
+  pub inside-of-same : (o : Option ℕ) → inside_of ns o ≡ inside_of ms o
   inside-of-same None = refl
-  inside-of-same (Is i) = inside-same i
+  inside-of-same (Some i) = inside-same i
 
   items-same : (tag : ℕ) (is : List ℕ) → items_in ns tag is ≡ items_in ms tag is
   unfolding items_in
@@ -217,6 +216,6 @@ module _ {ns ms : List Node} (a : Alike ns ms) where
   unfolding function_in is_read
   function-same is = go (find ns Tags.VOILUTFunction is) refl ∙ ap (function_on ms) (find-same Tags.VOILUTFunction is)
     where
-      go : (o : Num) → find ns Tags.VOILUTFunction is ≡ o → function_on ns o ≡ function_on ms o
+      go : (o : Option ℕ) → find ns Tags.VOILUTFunction is ≡ o → function_on ns o ≡ function_on ms o
       go None e = refl
-      go (Is k) e = rw (a.vr k, value_same Tags.VOILUTFunction refl is k e)
+      go (Some k) e = rw (a.vr k, value_same Tags.VOILUTFunction refl is k e)

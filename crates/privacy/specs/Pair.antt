@@ -2,7 +2,7 @@
 -- and in the lengths of all four. Proved by computing, in proofs/Pair.antt.
 use Rattle.std.specs.Prelude.{◌≡◌, ℕ, cond, List, [], ◌∷◌, ◌++◌, take, drop, replicate}
 use Rattle.basics.specs.Tags
-use Rattle.dataset.specs.Reading.{Row}
+use Rattle.dataset.specs.declared.Row.{Row}
 use Rattle.dataset.specs.Tree.{rows_of}
 use Rattle.value.specs.Text.{ascii}
 use Rattle.conformance.specs.Judging.{judge_of, fields_of}

@@ -13,7 +13,7 @@
 -- among the tags that are read (specs/Read.antt), and none of the four may be. specs/Pair.antt has two accepted data sets of this kind.
 use Rattle.std.specs.Prelude.{◌≡◌, ℕ, Bool, cond, ◌&&◌, List, [], ◌∷◌, map, eqb}
 use Rattle.basics.specs.Tags
-use Rattle.dataset.specs.Reading.{Row}
+use Rattle.dataset.specs.declared.Row.{Row}
 use Rattle.node.specs.Nodes.{value_in}
 use Rattle.slip.specs.Slip.{slip_of}
 use Rattle.rules.specs.Frame.{is_in}

@@ -1,6 +1,7 @@
 -- Two data sets that read well, with the same rows but for offsets and lengths.
 use Rattle.std.specs.Prelude.{◌≡◌, ℕ, List, map}
-use Rattle.dataset.specs.Reading.{Row, row, read, reading_of}
+use Rattle.dataset.specs.Reading.{row, read, reading_of}
+use Rattle.dataset.specs.declared.Row.{Row}
 
 -- A row without its offset and length: its tag, VR, depth, rows below and seventh number.
 abbrev pub outline : Row → Row

@@ -3,7 +3,7 @@
 -- buffer, `judge` gives the same code, rule, frame and row count. So the bytes of Pixel Data do not affect the verdict, nor do the values
 -- of private elements or of any other element that no rule names. Proved in proofs/Unread.antt.
 use Rattle.std.specs.Prelude.{◌≡◌, ℕ, cond, List, [], map, length, eqb}
-use Rattle.dataset.specs.Reading.{Row}
+use Rattle.dataset.specs.declared.Row.{Row}
 use Rattle.node.specs.Nodes.{value_in}
 use Rattle.basics.specs.Tags
 use Rattle.conformance.specs.Judging.{judge_of}

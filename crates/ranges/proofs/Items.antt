@@ -1,10 +1,10 @@
 -- An item takes only frames that are free, so after each the free frames are left to the items that follow, and after the last nothing is
 -- left.
+use Rattle.std.specs.Prelude.{Option, Some, None}
 use mathlib.Core.Path.{◌≡◌, refl, sym, ap, ◌∙◌, subst}
 use mathlib.Core.Bool.{Bool, true, false, cond}
-use mathlib.Core.List.{List, []}
+use mathlib.Core.List.{List, [], ◌∷◌}
 use mathlib.Core.Logic.{dite}
-use mathlib.Core.Option.{Option, none, some}
 use Prim.Native.Nat.{ℕ, ◌+◌, ◌-◌, ◌≤◌, ◌<◌, max}
 use native.Mathlib.Nat.{zero-max}
 use native.Mathlib.Decide.{ℕ_discrete}
@@ -12,11 +12,8 @@ use native.Mathlib.Omega.{arith}
 use lib.Dec.{leb}
 use lib.ListN.{length, get_or}
 use borrow.Author.Tests.{eq-eqb, ne_eqb, le-leb}
-use Rattle.node.specs.Nodes.{Node, next_node, members}
-use Rattle.node.proofs.Walks.{members-end}
-use Rattle.steps.specs.declared.Applying.TheVariants.{Item}
+use Rattle.node.specs.Nodes.{Node}
 use Rattle.steps.specs.Steps.{is_in_pairs, range_holds, first_holding}
-use Rattle.steps.proofs.Given.{never}
 use Rattle.steps.proofs.Laws.{holding-lacks, holding-here, holding-next}
 use Rattle.ranges.specs.Internal.{mark_of, far_of, taken_by, Cleared, Marked, Covered, CoveredBy, CoveredAll, Tried, item_of, AllFound}
 use Rattle.ranges.specs.Internal.{left_of, LeftToFind}
@@ -24,7 +21,7 @@ use Rattle.ranges.proofs.Reach.{in_reach, far-marks, far-first}
 
 -- ---- Tests that answer or not
 
-same_test : {o : Option Bool} {a b : Bool} → o ≡ some a → o ≡ some b → a ≡ b
+same_test : {o : Option Bool} {a b : Bool} → o ≡ Some a → o ≡ Some b → a ≡ b
 same_test e f = cc
 
 -- ---- Covering
@@ -56,17 +53,13 @@ taken_free : (old : ℕ) (t : Bool) (item : ℕ) → old ≡ 0 → taken_by old 
 unfolding taken_by
 taken_free old t item e = rw (eq-eqb old 0 e)
 
-pub tried-by : (holds : ℕ → Bool) (o : ℕ → Option Bool) (n item : ℕ) (before after : List ℕ) → ((f : ℕ) → o f ≡ some (holds f))
+pub tried-by : (holds : ℕ → Bool) (o : ℕ → Option Bool) (n item : ℕ) (before after : List ℕ) → ((f : ℕ) → o f ≡ Some (holds f))
     → CoveredBy holds n item before after → Tried o n item before after
 tried-by holds o n item before after s h =
     record {
       each = λ f low high t e. h.each f low high ∙ ap (λ (b : Bool). taken_by (get_or before f 0) b item) (same_test (s f) e);
       kept = λ f low high free. h.each f low high ∙ taken-kept (get_or before f 0) (holds f) item free;
     }
-
-pub tried-none : (o : ℕ → Option Bool) (n item : ℕ) (before : List ℕ) → ((f : ℕ) → o f ≡ none) → Tried o n item before before
-tried-none o n item before s =
-    record { each = λ f low high t e. absurd (never (sym (s f) ∙ e)); kept = λ f low high free. refl }
 
 pub tried_same : (o q : ℕ → Option Bool) (n item : ℕ) (before after : List ℕ) → ((f : ℕ) → q f ≡ o f) → Tried o n item before after
     → Tried q n item before after
@@ -75,62 +68,53 @@ tried_same o q n item before after s h =
 
 -- ---- One item after the other
 
-pub left-start : (ns : List Node) (n : ℕ) (all which : List ℕ) → Cleared (n + 1) which → LeftToFind ns n all all which
-left-start ns n all which z =
-    record {
-      each = λ f low high. ap (left_of ns f all) (z.each f (omega arith));
-      below = λ f low high. omega (arith, z.each f (omega arith));
-    }
+pub left_end : (ns : List Node) (n : ℕ) (all which is : List ℕ) → is ≡ [] → LeftToFind ns n all is which → LeftToFind ns n all [] which
+left_end ns n all which is h l = subst (λ (rest : List ℕ). LeftToFind ns n all rest which) h l
 
-pub left_end : (ns : List Node) (n : ℕ) (all which : List ℕ) (at to : ℕ) → to ≤ at → LeftToFind ns n all (members ns at to) which
-    → LeftToFind ns n all [] which
-left_end ns n all which at to h l = subst (λ (rest : List ℕ). LeftToFind ns n all rest which) (members-end ns at to h) l
-
-module _ (ns : List Node) (n : ℕ) (all before after : List ℕ) (at to next : ℕ) (h : at < to) (k : to ≤ length ns)
-    (e : next ≡ next_node ns at)
-    (held : AllFound ns n all) (l : LeftToFind ns n all (members ns at to) before)
-    (t : Tried (λ f. range_holds ns f at) n (at + 1) before after) where
+module _ (ns : List Node) (n : ℕ) (all before after is : List ℕ) (item : ℕ) (rest : List ℕ) (h : is ≡ item ∷ rest) (k : item < length ns)
+    (held : AllFound ns n all) (l : LeftToFind ns n all is before)
+    (t : Tried (λ f. range_holds ns f item) n (item + 1) before after) where
   module _ (f : ℕ) (low : 1 ≤ f) (high : f ≤ n) where
     kept : (get_or before f 0 ≡ 0 → ⊥)
-        → (left_of ns f (members ns next to) (get_or after f 0) ≡ first_holding ns f all) × (get_or after f 0 ≤ length ns)
+        → (left_of ns f rest (get_or after f 0) ≡ first_holding ns f all) × (get_or after f 0 ≤ length ns)
     kept free =
         let same = t.kept f low high free in
-        let now : left_of ns f (members ns at to) (get_or before f 0)
-        ≡ some (Item (get_or before f 0 - 1)) = rw (ne_eqb (get_or before f 0) 0 free) in
-        let then : left_of ns f (members ns next to) (get_or before f 0)
-        ≡ some (Item (get_or before f 0 - 1)) = rw (ne_eqb (get_or before f 0) 0 free) in
-        (ap (left_of ns f (members ns next to)) same ∙ (then ∙ (sym now ∙ l.each f low high)), omega (arith, same, l.below f low high))
+        let now : left_of ns f is (get_or before f 0)
+        ≡ Some (Some (get_or before f 0 - 1)) = rw (ne_eqb (get_or before f 0) 0 free) in
+        let then : left_of ns f rest (get_or before f 0)
+        ≡ Some (Some (get_or before f 0 - 1)) = rw (ne_eqb (get_or before f 0) 0 free) in
+        (ap (left_of ns f rest) same ∙ (then ∙ (sym now ∙ l.each f low high)), omega (arith, same, l.below f low high))
 
-    free : get_or before f 0 ≡ 0 → (o : Option Bool) → range_holds ns f at ≡ o
-        → (left_of ns f (members ns next to) (get_or after f 0) ≡ first_holding ns f all) × (get_or after f 0 ≤ length ns)
-    free z none q = absurd
-        (held.each f low high (sym (ap (left_of ns f (members ns at to)) (sym z) ∙ l.each f low high) ∙ holding-lacks ns f at to h q))
-    free z (some true) q =
-        let w = t.each f low high true q ∙ taken_free (get_or before f 0) true (at + 1) z in
-        let here : at + 1 - 1 ≡ at = omega arith in (
-          ap (left_of ns f (members ns next to)) w
-              ∙ (rw (ne_eqb (at + 1) 0 (λ p. omega (arith, p)), here) (sym (holding-here ns f at to h q))
-              ∙ (ap (left_of ns f (members ns at to)) (sym z) ∙ l.each f low high)),
-          omega (arith, w, h, k),
+    free : get_or before f 0 ≡ 0 → (o : Option Bool) → range_holds ns f item ≡ o
+        → (left_of ns f rest (get_or after f 0) ≡ first_holding ns f all) × (get_or after f 0 ≤ length ns)
+    free z None q = absurd
+        (held.each f low high (sym (ap (left_of ns f is) (sym z) ∙ l.each f low high) ∙ holding-lacks ns f is item rest h q))
+    free z (Some true) q =
+        let w = t.each f low high true q ∙ taken_free (get_or before f 0) true (item + 1) z in
+        let here : item + 1 - 1 ≡ item = omega arith in (
+          ap (left_of ns f rest) w
+              ∙ (rw (ne_eqb (item + 1) 0 (λ p. omega (arith, p)), here) (sym (holding-here ns f is item rest h q))
+              ∙ (ap (left_of ns f is) (sym z) ∙ l.each f low high)),
+          omega (arith, w, k),
         )
-    free z (some false) q =
-        let w = t.each f low high false q ∙ taken_free (get_or before f 0) false (at + 1) z in (
-          ap (left_of ns f (members ns next to)) w
-              ∙ (sym (holding-next ns f at to next e h q) ∙ (ap (left_of ns f (members ns at to)) (sym z) ∙ l.each f low high)),
+    free z (Some false) q =
+        let w = t.each f low high false q ∙ taken_free (get_or before f 0) false (item + 1) z in (
+          ap (left_of ns f rest) w
+              ∙ (sym (holding-next ns f is item rest h q) ∙ (ap (left_of ns f is) (sym z) ∙ l.each f low high)),
           omega (arith, w),
         )
 
-    both : (left_of ns f (members ns next to) (get_or after f 0) ≡ first_holding ns f all) × (get_or after f 0 ≤ length ns)
-    both = dite (ℕ_discrete (get_or before f 0) 0) (λ z. free z (range_holds ns f at) refl) kept
+    both : (left_of ns f rest (get_or after f 0) ≡ first_holding ns f all) × (get_or after f 0 ≤ length ns)
+    both = dite (ℕ_discrete (get_or before f 0) 0) (λ z. free z (range_holds ns f item) refl) kept
 
-  pub left-next : LeftToFind ns n all (members ns next to) after
+  pub left-next : LeftToFind ns n all rest after
   left-next = record { each = λ f low high. (both f low high).0; below = λ f low high. (both f low high).1 }
 
 -- Nothing is left.
-left-none : (ns : List Node) (f w : ℕ) → left_of ns f [] w ≡ some (item_of w)
+left-none : (ns : List Node) (f w : ℕ) → left_of ns f [] w ≡ Some (item_of w)
 unfolding first_holding
 left-none ns f w = dite (ℕ_discrete w 0) (λ z. rw (eq-eqb w 0 z)) (λ n. rw (ne_eqb w 0 n))
 
 pub left-all : (ns : List Node) (n : ℕ) (all which : List ℕ) → LeftToFind ns n all [] which → (f : ℕ) → 1 ≤ f → f ≤ n
-    → first_holding ns f all ≡ some (item_of (get_or which f 0))
+    → first_holding ns f all ≡ Some (item_of (get_or which f 0))
 left-all ns n all which l f low high = sym (l.each f low high) ∙ left-none ns f (get_or which f 0)

@@ -2,4 +2,3 @@
 pub mod Reach
 pub mod Tables
 pub mod Items
-pub mod Names

@@ -16,15 +16,6 @@ use Rattle.value.proofs.Laws.{values-end, pair-at}
 use Rattle.ranges.specs.Internal.{mark_of, taken_by}
 use Rattle.ranges.proofs.Reach.{max-next}
 
-pub zero_more : (l : List ℕ) (i : ℕ) → i < length l → ((j : ℕ) → j < i → get_or l j 0 ≡ 0) → (j : ℕ) → j < i + 1 → get_or (set l i 0) j 0 ≡ 0
-zero_more l i h q j t = dite (ℕ_discrete j i) here there
-  where
-    here : j ≡ i → get_or (set l i 0) j 0 ≡ 0
-    here e = rw e (get_or-set_same l i 0 0 h)
-
-    there : (j ≡ i → ⊥) → get_or (set l i 0) j 0 ≡ 0
-    there n = get_or-set_other l i j 0 0 n ∙ q j (omega (arith, n))
-
 -- ---- Marks
 
 pub marks-end : (i : ℕ) (v : List ℕ) (k : ℕ) → 2 * k ≡ length v / 2 → mark_of i (drop (2 * k) (us_values v)) ≡ 0

@@ -1,15 +1,7 @@
 -- What the tables over all frames hold. None of this is in the papers; `Rattle.steps` defines which mask item applies.
-use Rattle.std.specs.Prelude.{◌≡◌, Bool, true, cond, List, [], ◌∷◌, ℕ, zero, suc, ◌+◌, ◌-◌, ◌/◌, ◌%◌, ◌≤◌, ◌<◌, max, eqb, leb, length, get_or}
-use Rattle.std.proofs.Math.Option.{Option, none, some}
-use Rattle.basics.specs.Limits.{most_masks}
+use Rattle.std.specs.Prelude.{◌≡◌, Bool, true, cond, List, [], ◌∷◌, ℕ, zero, suc, ◌-◌, ◌≤◌, ◌<◌, max, eqb, leb, length, get_or, Option, Some, None, All, IfSome}
 use Rattle.node.specs.Nodes.{Node}
-use Rattle.steps.specs.declared.Applying.{Applying}
-use Rattle.steps.specs.declared.Applying.TheVariants.{Item, Nothing}
-use Rattle.steps.specs.declared.Found.{Found}
-use Rattle.steps.specs.declared.Found.TheVariants as found
-use Rattle.steps.specs.declared.Operation.{Operation}
-use Rattle.steps.specs.declared.Operation.TheVariants as operation
-use Rattle.steps.specs.declared.Told.{Told}
+use Rattle.ranges.specs.declared.ToldItem.{ToldItem}
 use Rattle.steps.specs.Steps.{first_holding, applying_to}
 use Rattle.steps.specs.Internal.{GivesItem, IsTold}
 
@@ -64,20 +56,20 @@ CoveredAll n item before after = CoveredBy (λ f. true) n item before after
 
 -- Whatever a range says: if it can be read, its frames are taken, and a frame that was taken stays so.
 pub record Tried (holds : ℕ → Option Bool) (n item : ℕ) (before after : List ℕ) : Type 0 where
-  pub each : (f : ℕ) → 1 ≤ f → f ≤ n → (h : Bool) → holds f ≡ some h → get_or after f 0 ≡ taken_by (get_or before f 0) h item
+  pub each : (f : ℕ) → 1 ≤ f → f ≤ n → (h : Bool) → holds f ≡ Some h → get_or after f 0 ≡ taken_by (get_or before f 0) h item
   pub kept : (f : ℕ) → 1 ≤ f → f ≤ n → (get_or before f 0 ≡ 0 → ⊥) → get_or after f 0 ≡ get_or before f 0
 
 -- A mask item as an entry of a table: one more than its node.
-abbrev pub item_of : ℕ → Applying
-item_of w = cond (eqb w 0) Nothing (Item (w - 1))
+abbrev pub item_of : ℕ → Option ℕ
+item_of w = cond (eqb w 0) None (Some (w - 1))
 
 -- At frames 1 to n, the first of a list of mask items that holds the frame is found.
 pub record AllFound (ns : List Node) (n : ℕ) (all : List ℕ) : Type 0 where
-  pub each : (f : ℕ) → 1 ≤ f → f ≤ n → first_holding ns f all ≡ none → ⊥
+  pub each : (f : ℕ) → 1 ≤ f → f ≤ n → first_holding ns f all ≡ None → ⊥
 
 -- The entries of a table after some mask items were tried, and what the rest of them say where it is free.
-abbrev pub left_of : List Node → ℕ → List ℕ → ℕ → Option Applying
-left_of ns f rest w = cond (eqb w 0) (first_holding ns f rest) (some (Item (w - 1)))
+abbrev pub left_of : List Node → ℕ → List ℕ → ℕ → Option (Option ℕ)
+left_of ns f rest w = cond (eqb w 0) (first_holding ns f rest) (Some (Some (w - 1)))
 
 pub record LeftToFind (ns : List Node) (n : ℕ) (all rest which : List ℕ) : Type 0 where
   pub each : (f : ℕ) → 1 ≤ f → f ≤ n → left_of ns f rest (get_or which f 0) ≡ first_holding ns f all
@@ -89,21 +81,11 @@ pub record Answering (ns : List Node) (n : ℕ) : Type 0 where
 
 -- The table of the mask items that apply to frames 1 to n.
 pub record Applied (ns : List Node) (n : ℕ) (which : List ℕ) : Type 0 where
-  pub each : (f : ℕ) → 1 ≤ f → f ≤ n → applying_to ns f ≡ some (item_of (get_or which f 0))
+  pub each : (f : ℕ) → 1 ≤ f → f ≤ n → applying_to ns f ≡ Some (item_of (get_or which f 0))
   pub below : (f : ℕ) → 1 ≤ f → f ≤ n → get_or which f 0 ≤ length ns
 
 -- ---- What each mask item says
 
--- An answer as a number: which item of the shared shift group names it in the upper part, its operation in the lower.
-abbrev pub answer_in : ℕ → Found
-answer_in x = cond (eqb x 0) found.Lacks (cond (eqb x 1) found.Absent (found.At (x - 2)))
-
-abbrev pub operation_in : ℕ → Operation
-operation_in x = cond (eqb x 0) operation.Lacks (cond (eqb x 1) operation.Native (cond (eqb x 2) operation.Average operation.Tid))
-
-abbrev pub told_in : ℕ → Told
-told_in x = record { operation = operation_in (x % 4); shared = answer_in (x / 4) }
-
--- Where there is a mask item, its answer is beside it.
-pub record Known (ns : List Node) (keys answers : List ℕ) : Type 0 where
-  pub each : (i j : ℕ) → i < most_masks → get_or keys i 0 ≡ j + 1 → IsTold ns j (told_in (get_or answers i 0))
+-- Each mask item of the table says what is beside it.
+abbrev pub Known : List Node → List (Option ToldItem) → Type 0
+Known ns known = All (λ entry. IfSome entry (λ e. IsTold ns e.item e.told)) known

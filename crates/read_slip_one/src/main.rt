@@ -2,72 +2,65 @@
 #![tactic(auto)]
 
 use printing::print_field;
-use slip::SlipAnswer;
 use std::io;
 use std::io::Write;
-use verdict::{RowCount, Verdict};
+use verdict::Verdict;
 
 // Ends the line of numbers.
-fn print_rows<W: Write>(to: &mut W, rows: RowCount) -> io::Result<()> {
+fn print_rows<W: Write>(to: &mut W, rows: Option<usize>) -> io::Result<()> {
     match rows {
-        RowCount::Known(n) => print_field(to, b" rows", n)?,
-        RowCount::NotKnown => to.write_all(b" rows not known")?,
+        Some(n) => print_field(to, " rows", n)?,
+        None => write!(to, " rows not known")?,
     }
-    to.write_all(b"\n")
+    writeln!(to)
 }
 
 fn print_breach<W: Write>(to: &mut W, v: Verdict) -> io::Result<()> {
-    let rows = v.rows;
-    print_field(to, b"code", v.code)?;
-    print_field(to, b" rule", v.rule)?;
-    print_field(to, b" frame", v.frame)?;
-    print_rows(to, rows)?;
-    print_field(to, b"a rule is broken: rule", v.rule)?;
+    write!(to, "code {} rule {} frame {}", v.code, v.rule, v.frame)?;
+    print_rows(to, v.rows)?;
+    print_field(to, "a rule is broken: rule", v.rule)?;
     if 0 < v.frame {
-        print_field(to, b" at frame", v.frame)?;
+        print_field(to, " at frame", v.frame)?;
     }
-    to.write_all(b"\n")
+    writeln!(to)
 }
 
 fn print_unread<W: Write>(to: &mut W, v: Verdict) -> io::Result<()> {
-    let rows = v.rows;
-    print_field(to, b"code", v.code)?;
-    print_field(to, b" place", v.offset)?;
-    print_rows(to, rows)?;
-    print_field(to, b"the data set could not be read: code", v.code)?;
-    print_field(to, b" at byte", v.offset)?;
-    to.write_all(b"\n")
+    write!(to, "code {} place {}", v.code, v.offset)?;
+    print_rows(to, v.rows)?;
+    writeln!(
+        to,
+        "the data set could not be read: code {} at byte {}",
+        v.code, v.offset,
+    )
 }
 
 fn print_alone<W: Write>(to: &mut W, v: Verdict) -> io::Result<()> {
-    let rows = v.rows;
-    print_field(to, b"code", v.code)?;
-    print_rows(to, rows)?;
-    let code = v.code;
-    match code {
-        0 => to.write_all(b"accepted\n"),
-        7 => to.write_all(b"the data set is too large\n"),
-        _ => to.write_all(b"too little room for the rows\n"),
-    }
+    print_field(to, "code", v.code)?;
+    print_rows(to, v.rows)?;
+    let meaning = match v.code {
+        0 => "accepted",
+        7 => "the data set is too large",
+        _ => "too little room for the rows",
+    };
+    writeln!(to, "{meaning}")
 }
 
 fn print_verdict<W: Write>(to: &mut W, v: Verdict) -> io::Result<()> {
-    let code = v.code;
-    match code {
-        0 => print_alone(to, v),
-        7 | 8 => print_alone(to, v),
+    match v.code {
+        0 | 7 | 8 => print_alone(to, v),
         9 => print_breach(to, v),
         _ => print_unread(to, v),
     }
 }
 
 fn print_refusal<W: Write>(to: &mut W, code: usize) -> io::Result<()> {
-    print_field(to, b"refused: code", code)?;
-    match code {
-        12 => to.write_all(b"\nnot a slip: wrong length or mark\n"),
-        13 => to.write_all(b"\nunknown slip version\n"),
-        _ => to.write_all(b"\nimpossible fields\n"),
-    }
+    let reason = match code {
+        12 => "not a slip: wrong length or mark",
+        13 => "unknown slip version",
+        _ => "impossible fields",
+    };
+    writeln!(to, "refused: code {code}\n{reason}")
 }
 
 fn main(rt: HostRuntime) -> io::Result<()> {
@@ -76,7 +69,7 @@ fn main(rt: HostRuntime) -> io::Result<()> {
     let n = room::read_full(&mut rt.stdin(), &mut buffer)?;
     let mut to = rt.stdout();
     match slip::read_slip(&buffer[..n]) {
-        SlipAnswer::Read(v) => print_verdict(&mut to, v),
-        SlipAnswer::Refused(code) => print_refusal(&mut to, code),
+        Ok(v) => print_verdict(&mut to, v),
+        Err(error) => print_refusal(&mut to, error.code().into()),
     }
 }

@@ -1,13 +1,14 @@
-// Buffers for what a program reads from standard input, and for its rows; and reading into one. Separate functions make the buffers and
-// state their lengths, so that no proof computes lengths from the arrays.
+// Buffers for what a program reads from standard input, and for its rows; reading into one; and the line for an input that is too long.
+// Separate functions make the buffers and state their lengths, so that no proof computes lengths from the arrays.
 #![tactic(auto)]
 
-ghost use Rattle.std.specs.Prelude.{◌≡◌, ◌<◌, IfOk, length, take};
+ghost use Rattle.std.specs.Prelude.{◌≡◌, ◌<◌, ◌++◌, IfOk, OnOk, codes, length, take};
 ghost use Rattle.std.specs.Io.{ReadsAtMost};
-ghost use Rattle.std.specs.Io.KnownBytes.{Consumes, IsAtEnd};
+ghost use Rattle.std.specs.Io.KnownBytes.{Appends, Consumes, IsAtEnd};
+ghost use Rattle.std.specs.Fmt.{decimal};
 
 use std::io;
-use std::io::Read;
+use std::io::{Read, Write};
 
 // The most bytes that a program takes.
 pub const MOST: usize = 65_536;
@@ -46,6 +47,7 @@ pub fn read_full<R: Read>(from: &mut R, buffer: &mut [u8]) -> io::Result<usize>
     ensures bytes { IfOk result (λ n. Consumes (R.remaining from.old) (R.remaining from.new) (take n buffer.new)) }
     ensures all { IfOk result (λ n. n < length buffer.new → IsAtEnd (R.remaining from.new)) }
 {
+    // std's `read_to_end` would need a heap, and `read_exact` an input as long as the buffer.
     let mut done = 0;
     while done < buffer.len() {
         let n = from.read(&mut buffer[done..])?;
@@ -55,4 +57,11 @@ pub fn read_full<R: Read>(from: &mut R, buffer: &mut [u8]) -> io::Result<usize>
         done += n;
     }
     Ok(done)
+}
+
+// Says that the input has more bytes than are taken.
+pub fn print_too_long<W: Write>(to: &mut W, most: usize) -> io::Result<()>
+    ensures { OnOk result (Appends (W.contents to.old) (W.contents to.new) (codes "too long: at most " ++ (decimal most ++ codes " bytes\n"))) }
+{
+    writeln!(to, "too long: at most {most} bytes")
 }

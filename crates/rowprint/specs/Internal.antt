@@ -1,19 +1,17 @@
 -- What is known about an answer before it is printed.
-use Rattle.std.specs.Prelude.{ℕ, ◌*◌, ◌≤◌, List, length}
+use Rattle.std.specs.Prelude.{ℕ, ◌*◌, ◌≤◌, List, length, Result, Ok, Err}
 use Rattle.dataset.specs.Answer.{width}
-use Rattle.dataset.specs.declared.ReadAnswer.{ReadAnswer}
-use Rattle.dataset.specs.declared.ReadAnswer.TheVariants.{Done, Refused, TooLarge, NoRoom}
+use Rattle.dataset.specs.declared.ReadError.{ReadError}
+use Rattle.dataset.specs.declared.ReadError.TheVariants.{Refused, TooLarge, NoRoom}
 
 -- The rows that the answer counts are in the buffer.
-abbrev pub RowsHeld : ReadAnswer → List ℕ → Type 0
-RowsHeld (Done n) rows = width * n ≤ length rows
-RowsHeld (Refused code offset) rows = Unit {0}
-RowsHeld TooLarge rows = Unit {0}
-RowsHeld NoRoom rows = Unit {0}
+abbrev pub RowsHeld : Result ℕ ReadError → List ℕ → Type 0
+RowsHeld (Ok n) rows = width * n ≤ length rows
+RowsHeld (Err e) rows = Unit {0}
 
 -- The answer is not code 8.
-abbrev pub Roomy : ReadAnswer → Type 0
-Roomy (Done n) = Unit {0}
-Roomy (Refused code offset) = Unit {0}
-Roomy TooLarge = Unit {0}
-Roomy NoRoom = ⊥
+abbrev pub Roomy : Result ℕ ReadError → Type 0
+Roomy (Ok n) = Unit {0}
+Roomy (Err (Refused r)) = Unit {0}
+Roomy (Err TooLarge) = Unit {0}
+Roomy (Err NoRoom) = ⊥

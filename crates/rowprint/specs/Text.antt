@@ -2,11 +2,11 @@
 use Rattle.std.specs.Prelude.{ℕ, ◌+◌, ◌/◌, ◌%◌, List, [], ◌∷◌, cond, ltb, eqb}
 
 -- The last hexadecimal digit of a number, in upper case.
-unfoldable pub hex_digit : ℕ → ℕ
+abbrev pub hex_digit : ℕ → ℕ
 hex_digit n = cond (ltb (n % 16) 10) (48 + n % 16) (55 + n % 16)
 
 -- A letter of the VR: a hyphen for an item, which has none.
-unfoldable pub letter : ℕ → ℕ → ℕ
+abbrev pub letter : ℕ → ℕ → ℕ
 letter vr half = cond (eqb vr 0) 45 (half % 256)
 
 -- Eight digits, a space, two letters.

@@ -7,17 +7,18 @@ ghost use Rattle.dataset.specs.Answer.{width, answer_of, buffer_of};
 ghost use Rattle.rowprint.specs.Text.{hex_digit, heading, letter as Text·letter};
 ghost use Rattle.rowprint.specs.Internal.{RowsHeld, Roomy};
 
-use dataset::ReadAnswer;
+use dataset::ReadError;
 use printing::{print_code, print_unread};
 use room::row_buffer;
 use std::io;
 use std::io::Write;
 
+// A digit by itself: `heading` names all eight, where the text of `{:08X}` is a recursion on the whole number, which a proof would unroll.
 fn hex_digit(n: u32) -> u8
     ensures { result ≡ hex_digit n }
 {
-    let d = n % 16;
-    if d < 10 { 48 + d as u8 } else { 55 + d as u8 }
+    let d = (n % 16) as u8;
+    if d < 10 { b'0' + d } else { b'A' - 10 + d }
 }
 
 fn letter(vr: u32, half: u32) -> u8
@@ -31,67 +32,69 @@ fn row_heading(tag: u32, vr: u32) -> [u8; 11]
     ensures { result ≡ heading tag vr }
 {
     [
-        hex_digit(tag / 268_435_456),
-        hex_digit(tag / 16_777_216),
-        hex_digit(tag / 1_048_576),
-        hex_digit(tag / 65_536),
-        hex_digit(tag / 4_096),
-        hex_digit(tag / 256),
-        hex_digit(tag / 16),
+        hex_digit(tag >> 28),
+        hex_digit(tag >> 24),
+        hex_digit(tag >> 20),
+        hex_digit(tag >> 16),
+        hex_digit(tag >> 12),
+        hex_digit(tag >> 8),
+        hex_digit(tag >> 4),
         hex_digit(tag),
         b' ',
-        letter(vr, vr / 256),
+        letter(vr, vr >> 8),
         letter(vr, vr),
     ]
 }
 
-fn wide(n: u32) -> u64 {
-    n as u64
-}
-
-fn print_number<W: Write>(to: &mut W, n: u64) -> io::Result<()> {
-    write!(to, " {n}")
-}
-
-fn print_row<W: Write>(to: &mut W, rows: &[u32], i: usize) -> io::Result<()>
-    requires { width * i + width ≤ length rows.now }
+fn print_row<W: Write>(to: &mut W, row: &[u32]) -> io::Result<()>
+    requires { width ≤ length row.now }
 {
-    let at = dataset::WIDTH * i;
-    let text = row_heading(rows[at], rows[at + dataset::VR]);
-    to.write_all(&text)?;
-    print_number(to, wide(rows[at + dataset::DEPTH]))?;
-    print_number(to, wide(rows[at + dataset::OFFSET]))?;
-    print_number(to, wide(rows[at + dataset::SIZE]))?;
-    print_number(to, wide(rows[at + dataset::DESCENDANTS]))?;
-    print_number(to, wide(rows[at + dataset::PARENT]))?;
-    to.write_all(b"\n")
+    to.write_all(&row_heading(row[0], row[dataset::VR]))?;
+    writeln!(
+        to,
+        " {} {} {} {} {}",
+        row[dataset::DEPTH],
+        row[dataset::OFFSET],
+        row[dataset::SIZE],
+        row[dataset::DESCENDANTS],
+        row[dataset::PARENT],
+    )
 }
 
 fn print_rows<W: Write>(to: &mut W, rows: &[u32], n: usize) -> io::Result<()>
     requires { width * n ≤ length rows.now }
 {
-    to.write_all(b"rows")?;
-    print_number(to, n as u64)?;
-    to.write_all(b"\n")?;
-    for i in 0..n {
-        print_row(to, rows, i)?;
+    writeln!(to, "rows {n}")?;
+    for row in rows.chunks_exact(dataset::WIDTH).take(n) {
+        print_row(to, row)?;
     }
     Ok(())
 }
 
-fn print_answer<W: Write>(to: &mut W, answer: ReadAnswer, rows: &[u32]) -> io::Result<()>
+// Why a data set was not read, in a line.
+pub fn print_error<W: Write>(to: &mut W, error: ReadError) -> io::Result<()> {
+    match error {
+        ReadError::Refused(refusal) => print_unread(to, refusal.fault.code(), refusal.offset),
+        ReadError::TooLarge => print_code(to, 7),
+        ReadError::NoRoom => print_code(to, 8),
+    }
+}
+
+fn print_answer<W: Write>(
+    to: &mut W,
+    answer: Result<usize, ReadError>,
+    rows: &[u32],
+) -> io::Result<()>
     requires { RowsHeld answer rows.now }
 {
     match answer {
-        ReadAnswer::Done(n) => print_rows(to, rows, n),
-        ReadAnswer::Refused(code, offset) => print_unread(to, code, offset),
-        ReadAnswer::TooLarge => print_code(to, 7),
-        ReadAnswer::NoRoom => print_code(to, 8),
+        Ok(n) => print_rows(to, rows, n),
+        Err(error) => print_error(to, error),
     }
 }
 
 // Reads a data set into a buffer with room for seven numbers for each 8 bytes of it, so the rows fit.
-fn read_roomy(bytes: &[u8], rows: &mut [u32]) -> ReadAnswer
+fn read_roomy(bytes: &[u8], rows: &mut [u32]) -> Result<usize, ReadError>
     requires { width * length bytes.now ≤ 8 * length rows.old }
     ensures value { result ≡ answer_of (reading_of bytes.now) rows.old }
     ensures rows_after { rows.new ≡ buffer_of (reading_of bytes.now) rows.old }
@@ -104,10 +107,8 @@ fn read_roomy(bytes: &[u8], rows: &mut [u32]) -> ReadAnswer
 // Prints the reading of a data set of at most `room::MOST` bytes; for more, that it is too long.
 pub fn print_reading<W: Write>(to: &mut W, bytes: &[u8]) -> io::Result<()> {
     if room::MOST < bytes.len() {
-        to.write_all(b"too long: at most 65536 bytes\n")?;
-        return Ok(());
+        return room::print_too_long(to, room::MOST);
     }
     let mut rows = row_buffer();
-    let answer = read_roomy(bytes, &mut rows);
-    print_answer(to, answer, &rows)
+    print_answer(to, read_roomy(bytes, &mut rows), &rows)
 }

@@ -1,6 +1,6 @@
 -- Rules 27 to 30 and 37, which are asked at each frame f. Each concerns item f of the per-frame groups (its node is i) and the shared
 -- item (s).
-use Rattle.std.specs.Prelude.{ℕ, List, [], ◌∷◌, map, Bool, true, false, not, ◌&&◌, ◌||◌, length, eqb, leb}
+use Rattle.std.specs.Prelude.{ℕ, List, [], ◌∷◌, map, Bool, true, false, not, ◌&&◌, ◌||◌, length, eqb, leb, Option}
 use Rattle.basics.specs.Vr.{SQ, DS, FL}
 use Rattle.value.specs.Text.{values_of}
 use Rattle.value.specs.declared.Function.{Function}
@@ -48,7 +48,7 @@ rule29 ns f = at_frame ns f (item29 ns)
 -- Rule 30. Frame VOI LUT (0028,9132), if present, one item; has Window Center (0028,1050) and Width (0028,1051) DS, equally many, each
 -- with the form of a DS number; its VOI LUT Function (0028,1056) CS, if present, LINEAR or LINEAR_EXACT; widths at least 1 with LINEAR,
 -- above 0 with LINEAR_EXACT. (An empty value is no number, and no function.)
-unfoldable pub is_window : Function → List ℕ → List ℕ → Bool
+unfoldable pub is_window : Option Function → List ℕ → List ℕ → Bool
 is_window f centers widths =
     is_function f && (eqb (length (values_of centers)) (length (values_of widths)) && (all_decimals centers && all_widths (least_width f) widths))
 

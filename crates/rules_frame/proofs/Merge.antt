@@ -1,5 +1,6 @@
 -- Rule 27 in one walk along two items. Tags never descend in a container, so that what the walk has passed in the shared item is asked for
 -- by no element that is left in the other.
+use Rattle.std.specs.Prelude.{Option, Some, None}
 use mathlib.Core.Path.{◌≡◌, refl, sym, ap, ◌∙◌}
 use Prim.Native.Nat.{ℕ, ◌+◌, ◌≤◌, ◌<◌}
 use native.Mathlib.Omega.{arith}
@@ -8,8 +9,6 @@ use mathlib.Core.Bool.{Bool, true, false, cond, ◌&&◌, and-false}
 use lib.Dec.{eqb, ltb}
 use borrow.Author.Tests.{lt-ltb, ltb-true}
 use Rattle.basics.specs.Vr.{SQ}
-use Rattle.value.specs.declared.Num.{Num}
-use Rattle.value.specs.declared.Num.TheVariants.{Is, None}
 use Rattle.node.specs.Nodes.{Node, node_at, next_node, members, inside}
 use Rattle.node.specs.Find.{holds, and_then, of_vr}
 use Rattle.node.specs.Internal.{Ascends, from_tag, first_is}
@@ -30,12 +29,12 @@ from-twice ns a t (i ∷ is) h = go (from-twice ns a t is h) (ltb (node_at ns i)
     go x false d = rw d
 
 -- What is found is of a VR just where its VR is that.
-of-vr : (ns : List Node) (f : Num) → holds (and_then f (of_vr ns SQ)) (λ k. true) ≡ holds f (λ k. eqb (node_at ns k).vr SQ)
+of-vr : (ns : List Node) (f : Option ℕ) → holds (and_then f (of_vr ns SQ)) (λ k. true) ≡ holds f (λ k. eqb (node_at ns k).vr SQ)
 unfolding of_vr
 of-vr ns None = refl
-of-vr ns (Is k) = go (eqb (node_at ns k).vr SQ)
+of-vr ns (Some k) = go (eqb (node_at ns k).vr SQ)
   where
-    go : (b : Bool) → holds (cond b (Is k) None) (λ k. true) ≡ b
+    go : (b : Bool) → holds (cond b (Some k) None) (λ k. true) ≡ b
     go true = refl
     go false = refl
 
@@ -67,7 +66,7 @@ module _ (ns : List Node) (shared j end k to : ℕ) (h : j < end) (a : Ahead ns 
     pub ahead-here : Ascends ns 0 (inside ns shared) → is_shared ns shared j ≡ is_repeated ns j (members ns n to)
     unfolding is_shared is_repeated
     ahead-here r =
-        ap (λ (f : Num). eqb (node_at ns j).vr SQ && holds (and_then f (of_vr ns SQ)) (λ k. true))
+        ap (λ (f : Option ℕ). eqb (node_at ns j).vr SQ && holds (and_then f (of_vr ns SQ)) (λ k. true))
         (find_first ns (node_at ns j).tag 0 (inside ns shared) r ∙ ap (first_is ns (node_at ns j).tag) (sym e))
         ∙ ap (λ (b : Bool). eqb (node_at ns j).vr SQ && b) (of-vr ns (first_is ns (node_at ns j).tag (members ns n to)))
 

@@ -8,7 +8,9 @@ use Rattle.node.specs.Internal.{first_is, holds_or}
 use Rattle.basics.specs.Tags
 use Rattle.element.specs.Elements.{one_item}
 use Rattle.intensity.specs.Internal.{relation_in, table_in, grades_agree}
+use Rattle.intensity.specs.declared.Grade.TheVariants.{Plain}
 use Rattle.rules_frame.specs.declared.SharedPart.{SharedPart}
+use Rattle.rules_frame.specs.declared.SharedPart.TheVariants.{Holds, Grades}
 use Rattle.rules.specs.Frame.{item27, item28, is_voi, is_shift_group}
 
 -- ---- Rule 27: the elements of two items together, by their tags
@@ -45,15 +47,13 @@ item_holds ns rule s i =
     (cond (eqb rule 28) (item28 ns s i)
     (group_holds ns rule i (group_holds ns rule s true)))
 
--- Rule 39 has two groups, each with a grade; any other rule has no grade, and rule 39 has no other part.
+-- Rule 39 has two groups, each with a grade; any other rule holds in the shared item or not.
 unfoldable pub shared_part : List Node → ℕ → ℕ → SharedPart
 shared_part ns rule s =
-    cond (eqb rule 39)
-    (record { ok = true; relation = relation_in ns s 1; table = table_in ns s 1 })
-    (record { ok = shared_ok ns rule s; relation = 1; table = 1 })
+    cond (eqb rule 39) (Grades (relation_in ns s Plain) (table_in ns s Plain)) (Holds (shared_ok ns rule s))
 
 unfoldable pub item_grades : List Node → ℕ → ℕ → Bool
-item_grades ns s i = grades_agree (relation_in ns i (relation_in ns s 1)) (table_in ns i (table_in ns s 1))
+item_grades ns s i = grades_agree (relation_in ns i (relation_in ns s Plain)) (table_in ns i (table_in ns s Plain))
 
 -- What a rule asks of the shared item s and a frame's item i.
 unfoldable pub item_rule : List Node → ℕ → ℕ → ℕ → Bool

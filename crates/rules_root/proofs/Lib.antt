@@ -1,2 +1,2 @@
--- What the proofs of several functions use.
+-- What is known of the rules by their numbers.
 pub mod Laws

@@ -12,14 +12,11 @@
 --
 -- Numbers that the paper leaves open are worked out by hand: the fields of a row, how many rows a whole data set has, and the cells of
 -- its picture that the paper does not name. A 9 in a buffer is a number that was not touched.
-use Rattle.std.specs.Prelude.{ℕ, ◌*◌, Bool, true, false, List, [], ◌∷◌, ◌++◌, pos, take, replicate}
-use Rattle.std.proofs.Math.Option.{Option, some}
+use Rattle.std.specs.Prelude.{ℕ, ◌*◌, Bool, true, false, List, [], ◌∷◌, ◌++◌, pos, take, replicate, Option, Some}
 use Rattle.dataset.specs.Reading.{reading_of}
 use Rattle.basics.specs.Fields.{Fields, placed, counted, drawn, broken}
 use Rattle.dataset.specs.Answer.{answer_of, buffer_of}
 use Rattle.dataset.specs.Answer as read
-use Rattle.value.specs.declared.Num.{Num}
-use Rattle.value.specs.declared.Num.TheVariants.{Is}
 use Rattle.value.specs.declared.Signed.TheVariants.{Plus}
 use Rattle.value.specs.declared.Function.TheVariants.{Linear}
 use Rattle.value.specs.Number.{unit}
@@ -49,11 +46,11 @@ pub data Outcome : Type 0 where
   -- the fields of an answer, and a buffer afterwards: the rows, or the image
   Answer : Fields → List ℕ → Outcome
   -- a grey level
-  Level : Num → Outcome
+  Level : Option ℕ → Outcome
   -- a mask cell
   MaskCell : ℕ → Outcome
   -- for each window, a grey level
-  Levels : (Window → Num) → Outcome
+  Levels : (Window → Option ℕ) → Outcome
   -- what masks a frame
   MaskedBy : Option Mask → Outcome
 
@@ -95,7 +92,7 @@ minus_one = 0xFF ∷ 0xFF ∷ []
 
 -- A centre and a width, whole numbers.
 abbrev pub window : ℕ → ℕ → Window
-window center width = record { center = Plus (unit * center); width = Plus (unit * width); function = Linear }
+window center width = record { center = Some (Plus (unit * center)); width = Some (Plus (unit * width)); function = Some Linear }
 
 abbrev pub monochrome1 : Bool
 monochrome1 = true
@@ -108,7 +105,7 @@ abbrev pub one_cell : Geometry
 one_cell = record { rows = 1; columns = 1; width = 1; stored = 8 }
 
 abbrev pub unmoved : Moves
-unmoved = record { vertical = Plus 0; horizontal = Plus 0 }
+unmoved = record { vertical = Some (Plus 0); horizontal = Some (Plus 0) }
 
 -- ---- The kinds of samples
 
@@ -130,7 +127,7 @@ judges bytes buffer fields after =
 
 -- A number x under a window, and whether it is MONOCHROME1: the grey level y.
 abbrev pub levels : Bool → Window → ℕ → ℕ → Sample
-levels inverse window x y = record { gives = Level (shaded inverse (level_of window (pos x))); says = Level (Is y) }
+levels inverse window x y = record { gives = Level (shaded inverse (level_of window (pos x))); says = Level (Some y) }
 
 -- Frames of one cell of 8 bits, and which of them are mask frames: the mask cell.
 abbrev pub averages : List ℕ → List ℕ → ℕ → Sample
@@ -146,7 +143,7 @@ subtracts cells masks frame x =
 
 -- A data set and a frame: what masks it.
 abbrev pub takes : List ℕ → ℕ → Mask → Sample
-takes bytes frame mask = record { gives = MaskedBy (mask_for (nodes_of bytes) frame); says = MaskedBy (some mask) }
+takes bytes frame mask = record { gives = MaskedBy (mask_for (nodes_of bytes) frame); says = MaskedBy (Some mask) }
 
 -- A data set that is shown at a frame, with room for its rows and an image buffer: the answer, and the image buffer afterwards.
 abbrev pub shows : List ℕ → ℕ → List ℕ → Fields → List ℕ → Sample

@@ -12,12 +12,17 @@ use Rattle.dataset.specs.Tree.{rows_of}
 use Rattle.node.specs.Nodes.{Node, no_node, nodes_of, node_at, next_node, members_by, members, inside}
 use Rattle.node.specs.Internal.{Ascends}
 use Rattle.node.proofs.Laws.{table, next-within}
-use Rattle.node.proofs.Walks.{members-end, members-next}
-use Rattle.node.proofs.Halves.{ascends-next}
 use Rattle.element.specs.Elements.{some}
 use Rattle.searches.specs.Count.{lower_tags, remains, looked_at}
 
 -- ---- One member
+
+-- The members after one that is passed.
+pub rest-ascends : (ns : List Node) (i least : ℕ) (is rest : List ℕ) → is ≡ i ∷ rest → Ascends ns least is → Ascends ns (node_at ns i).tag rest
+unfolding Ascends
+rest-ascends ns i least is rest h a =
+    let b : Ascends ns least (i ∷ rest) = rw h at a in
+    b.1
 
 -- Among members whose tags are all at least the one sought, none is lower.
 lower-none : (ns : List Node) (tag least : ℕ) (is : List ℕ) → Ascends ns least is → tag ≤ least → lower_tags ns tag is ≡ 0
@@ -27,27 +32,25 @@ lower-none ns tag least (k ∷ ks) a l =
     rw (le-ltb (node_at ns k).tag tag (omega (arith, a.0)))
     (omega (arith, lower-none ns tag (node_at ns k).tag ks a.1 (omega (arith, a.0))))
 
-module _ (ns : List Node) (tag i to : ℕ) where
-  pub looked-end : to ≤ i → looked_at ns tag (members ns i to) ≡ 0
+module _ (ns : List Node) (tag : ℕ) (is : List ℕ) where
+  pub looked-end : is ≡ [] → looked_at ns tag is ≡ 0
   unfolding looked_at lower_tags remains some
-  looked-end h = rw (members-end ns i to h)
+  looked-end h = rw h
 
-  pub looked-later : i < to → (node_at ns i).tag < tag
-      → looked_at ns tag (members ns i to) ≡ 1 + looked_at ns tag (members ns (next_node ns i) to)
-  unfolding looked_at lower_tags remains some
-  looked-later h l =
-      rw (members-next ns i to h, lt-ltb (node_at ns i).tag tag l, lt-leb tag (node_at ns i).tag l) (omega arith)
+  module _ (i : ℕ) (rest : List ℕ) (h : is ≡ i ∷ rest) where
+    pub looked-later : (node_at ns i).tag < tag → looked_at ns tag is ≡ 1 + looked_at ns tag rest
+    unfolding looked_at lower_tags remains some
+    looked-later l = rw (h, lt-ltb (node_at ns i).tag tag l, lt-leb tag (node_at ns i).tag l) (omega arith)
 
-  pub looked-here : (least : ℕ) → Ascends ns least (members ns i to) → i < to → tag ≤ (node_at ns i).tag
-      → looked_at ns tag (members ns i to) ≡ 1
-  unfolding looked_at lower_tags remains some
-  looked-here least a h l =
-      rw (
-        members-next ns i to h,
-        le-ltb (node_at ns i).tag tag l,
-        le-leb tag (node_at ns i).tag l,
-        lower-none ns tag (node_at ns i).tag (members ns (next_node ns i) to) (ascends-next ns i to least h a) l,
-      )
+    pub looked-here : (least : ℕ) → Ascends ns least is → tag ≤ (node_at ns i).tag → looked_at ns tag is ≡ 1
+    unfolding looked_at lower_tags remains some
+    looked-here least a l =
+        rw (
+          h,
+          le-ltb (node_at ns i).tag tag l,
+          le-leb tag (node_at ns i).tag l,
+          lower-none ns tag (node_at ns i).tag rest (rest-ascends ns i least is rest h a) l,
+        )
 
 -- ---- At most the number of members
 

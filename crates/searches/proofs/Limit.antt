@@ -1,5 +1,6 @@
 -- The limit: 33 searches in the root and 7 in each mask item look at no more than 40 times the rows, since mask items do not overlap; those
 -- of a frame at no more than 25 times, and rule 26 says that there are N items of frames.
+use Rattle.std.specs.Prelude.{Option, Some, None}
 use mathlib.Core.Path.{◌≡◌, ◌∙◌}
 use Prim.Native.Nat.{ℕ, ◌+◌, ◌*◌, ◌≤◌}
 use native.Mathlib.Omega.{arith}
@@ -8,8 +9,6 @@ use mathlib.Core.Bool.{true, false}
 use lib.ListN.{length}
 use lib.Dec.{eqb}
 use borrow.Author.Tests.{eqb-true}
-use Rattle.value.specs.declared.Num.{Num}
-use Rattle.value.specs.declared.Num.TheVariants.{Is, None}
 use Rattle.node.specs.Nodes.{Node, nodes_of, root, inside}
 use Rattle.node.specs.Find.{holds, find_vr}
 use Rattle.basics.specs.Vr.{SQ}
@@ -35,18 +34,18 @@ unfolding rule_at rule_list first_frame frame_count per_frame
 accepted-26 ns e = accepted-holds ns e 26 (omega arith) (omega arith) 0 (omega arith) (omega arith)
 
 -- So there are N items of frames.
-items-are : (ns : List Node) (n : ℕ) → rule26 ns ≡ true → frames_of ns ≡ Is n → length (frame_items ns) ≡ n
+items-are : (ns : List Node) (n : ℕ) → rule26 ns ≡ true → frames_of ns ≡ Some n → length (frame_items ns) ≡ n
 unfolding rule26 frame_items items_in
 items-are ns n r f = go (find_vr ns Tags.PerFrameFunctionalGroupsSequence SQ (root ns)) (frames_of ns) f r
   where
     clash : {A : Type 0} → false ≡ true → A
     clash z = let x : ◌≡◌ {A = ℕ} 0 1 = cc in absurd (omega arith)
 
-    go : (found frames : Num) → frames ≡ Is n → holds found (λ p. holds frames (λ m. eqb (length (inside ns p)) m)) ≡ true
+    go : (found frames : Option ℕ) → frames ≡ Some n → holds found (λ p. holds frames (λ m. eqb (length (inside ns p)) m)) ≡ true
         → length (inside_of ns found) ≡ n
     go None frames e r = clash r
-    go (Is p) None e r = let x : ◌≡◌ {A = ℕ} 0 1 = cc in absurd (omega arith)
-    go (Is p) (Is m) e r =
+    go (Some p) None e r = let x : ◌≡◌ {A = ℕ} 0 1 = cc in absurd (omega arith)
+    go (Some p) (Some m) e r =
         let q : m ≡ n = cc in
         eqb-true (length (inside ns p)) m r ∙ q
 
@@ -67,9 +66,9 @@ module _ (ns : List Node) (w : Within ns) where
   unfolding frame_searches
   frames-few s is = rw (frames-are ns s is) (omega (arith, both-few ns w s is, groups-few ns w s frame_searches is))
 
-  pub over-frames-few : (shared : Num) → over_frames ns shared ≤ 25 * length ns * length (frame_items ns)
+  pub over-frames-few : (shared : Option ℕ) → over_frames ns shared ≤ 25 * length ns * length (frame_items ns)
   over-frames-few None = omega arith
-  over-frames-few (Is s) = frames-few s (frame_items ns)
+  over-frames-few (Some s) = frames-few s (frame_items ns)
 
   pub sum-few : searches_of ns ≤ 40 * length ns + 25 * length ns * length (frame_items ns)
   unfolding searches_of

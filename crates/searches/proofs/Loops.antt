@@ -1,6 +1,7 @@
 -- The sums at the places that the loops have reached, and that they fit.
+use Rattle.std.specs.Prelude.{Option, Some, None}
 use mathlib.Core.Path.{◌≡◌, refl, sym, ap, ◌∙◌}
-use Prim.Native.Nat.{ℕ, zero, suc, ◌+◌, ◌*◌, ◌≤◌, ◌<◌}
+use Prim.Native.Nat.{ℕ, ◌+◌, ◌*◌, ◌≤◌, ◌<◌}
 use native.Mathlib.Omega.{arith}
 use native.Mathlib.Nat.{mul-le-mul_left, mul-le-mul_right}
 use native.Mathlib.Numerals.{add-one}
@@ -9,15 +10,12 @@ use mathlib.Core.Bool.{Bool, true, false, cond, false≢true, or-true}
 use lib.ListN.{length, drop, get_or}
 use lib.Seq.{drop-cons, drop-length}
 use lib.Dec.{leb}
-use borrow.Author.Tests.{leb-true, leb-false, le-leb, lt-leb}
+use borrow.Author.Tests.{leb-true, leb-false, le-leb}
 use Rattle.basics.specs.Limits.{most_rows}
-use Rattle.value.specs.declared.Num.{Num}
-use Rattle.value.specs.declared.Num.TheVariants.{Is, None}
 use Rattle.basics.specs.Vr.{SQ}
-use Rattle.node.specs.Nodes.{Node, nodes_of, node_at, next_node, members, root, inside}
+use Rattle.node.specs.Nodes.{Node, nodes_of, node_at, members, root, inside}
 use Rattle.node.specs.Find.{find, find_vr}
 use Rattle.node.specs.Internal.{Ascends}
-use Rattle.node.proofs.Walks.{members-end, members-next}
 use Rattle.basics.specs.Tags
 use Rattle.element.specs.Elements.{inside_of, items_in}
 use Rattle.element.specs.Frames.{frame_items, mask_items}
@@ -29,14 +27,19 @@ use Rattle.searches.proofs.Sums.{searched-is, mask_is, read_is, all-few, each-fe
 
 -- ---- Tag by tag
 
-module _ (ns : List Node) (tags is : List ℕ) (k : ℕ) where
-  pub all_end : k ≡ length tags → all_looked ns (drop k tags) is ≡ 0
-  unfolding all_looked
-  all_end e = rw (e, drop-length tags)
+pub all_nil : (ns : List Node) (tags is : List ℕ) → length tags ≡ 0 → all_looked ns tags is ≡ 0
+unfolding all_looked
+all_nil ns [] is h = refl
+all_nil ns (tag ∷ tags) is h = absurd (omega arith)
 
-  pub all-next : k < length tags → all_looked ns (drop k tags) is ≡ looked_at ns (get_or tags k 0) is + all_looked ns (drop (k + 1) tags) is
-  unfolding all_looked
-  all-next h = rw (add-one k, drop-cons tags k 0 h)
+pub all_end : (ns : List Node) (tags is : List ℕ) (k : ℕ) → k ≡ length tags → all_looked ns (drop k tags) is ≡ 0
+unfolding all_looked
+all_end ns tags is k e = rw (e, drop-length tags)
+
+pub all-next : (ns : List Node) (tags is : List ℕ) (k : ℕ) → k < length tags
+    → all_looked ns (drop k tags) is ≡ looked_at ns (get_or tags k 0) is + all_looked ns (drop (k + 1) tags) is
+unfolding all_looked
+all-next ns tags is k h = rw (add-one k, drop-cons tags k 0 h)
 
 -- ---- Member by member, all the tags at once
 
@@ -48,34 +51,39 @@ rises-parts x tag tags r = go (leb x tag) refl r
     go true e q = (leb-true x tag e, q)
     go false e q = absurd (false≢true q)
 
-pub rises-drop : (k : ℕ) (tags : List ℕ) (x : ℕ) → rises x tags ≡ true → rises 0 (drop k tags) ≡ true
-unfolding rises
-rises-drop zero [] x r = refl
-rises-drop zero (tag ∷ tags) x r = rw (le-leb 0 tag (omega arith)) (rises-parts x tag tags r).1
-rises-drop (suc k) [] x r = refl
-rises-drop (suc k) (tag ∷ tags) x r = rises-drop k tags tag (rises-parts x tag tags r).1
+-- Some of the last of them ascend too.
+pub rises-above : (here : ℕ) (tags : List ℕ) (x : ℕ) → rises x tags ≡ true → rises 0 (tags_above here tags) ≡ true
+unfolding rises tags_above
+rises-above here [] x r = refl
+rises-above here (tag ∷ tags) x r =
+    let q = (rises-parts x tag tags r).1 in
+    go q (rises-above here tags tag q) (leb tag here)
+  where
+    go : rises tag tags ≡ true → rises 0 (tags_above here tags) ≡ true → (b : Bool)
+        → rises 0 (cond b (tags_above here tags) (tag ∷ tags)) ≡ true
+    go q z true = z
+    go q z false = rw (le-leb 0 tag (omega arith)) q
 
-module _ (ns : List Node) (i to : ℕ) where
-  pub all_none : (tags : List ℕ) → to ≤ i → all_looked ns tags (members ns i to) ≡ 0
+module _ (ns : List Node) (is : List ℕ) where
+  pub all_none : (tags : List ℕ) → is ≡ [] → all_looked ns tags is ≡ 0
   unfolding all_looked
   all_none [] h = refl
-  all_none (tag ∷ tags) h = omega (arith, looked-end ns tag i to h, all_none tags h)
+  all_none (tag ∷ tags) h = omega (arith, looked-end ns tag is h, all_none tags h)
 
-  module _ (least : ℕ) (a : Ascends ns least (members ns i to)) (h : i < to) where
+  module _ (i : ℕ) (rest : List ℕ) (h : is ≡ i ∷ rest) (least : ℕ) (a : Ascends ns least is) where
     -- Tags above the member's are sought on.
     all_above : (tags : List ℕ) (x : ℕ) → rises x tags ≡ true → (node_at ns i).tag < x
-        → all_looked ns tags (members ns i to) ≡ length tags + all_looked ns tags (members ns (next_node ns i) to)
+        → all_looked ns tags is ≡ length tags + all_looked ns tags rest
     unfolding all_looked
     all_above [] x r l = refl
     all_above (tag ∷ tags) x r l =
         let p = rises-parts x tag tags r in
         let m : (node_at ns i).tag < tag = omega (arith, p.0) in
-        omega (arith, looked-later ns tag i to h m, all_above tags tag p.1 m)
+        omega (arith, looked-later ns tag is i rest h m, all_above tags tag p.1 m)
 
     -- Each search looks at the member, and those of tags above it go on.
     pub all-step : (tags : List ℕ) (x : ℕ) → rises x tags ≡ true
-        → all_looked ns tags (members ns i to)
-        ≡ length tags + all_looked ns (tags_above (node_at ns i).tag tags) (members ns (next_node ns i) to)
+        → all_looked ns tags is ≡ length tags + all_looked ns (tags_above (node_at ns i).tag tags) rest
     unfolding all_looked tags_above
     all-step [] x r = refl
     all-step (tag ∷ tags) x r =
@@ -83,60 +91,43 @@ module _ (ns : List Node) (i to : ℕ) where
         go q (all-step tags tag q) (leb tag (node_at ns i).tag) refl
       where
         go : rises tag tags ≡ true
-            → all_looked ns tags (members ns i to)
-            ≡ length tags + all_looked ns (tags_above (node_at ns i).tag tags) (members ns (next_node ns i) to)
+            → all_looked ns tags is ≡ length tags + all_looked ns (tags_above (node_at ns i).tag tags) rest
             → (b : Bool) → leb tag (node_at ns i).tag ≡ b
-            → all_looked ns (tag ∷ tags) (members ns i to)
-            ≡ length (tag ∷ tags) + all_looked ns (cond b (tags_above (node_at ns i).tag tags) (tag ∷ tags)) (members ns (next_node ns i) to)
-        go q z true e = omega (arith, looked-here ns tag i to least a h (leb-true tag (node_at ns i).tag e), z)
+            → all_looked ns (tag ∷ tags) is
+            ≡ length (tag ∷ tags) + all_looked ns (cond b (tags_above (node_at ns i).tag tags) (tag ∷ tags)) rest
+        go q z true e = omega (arith, looked-here ns tag is i rest h least a (leb-true tag (node_at ns i).tag e), z)
         go q z false e =
             let m = leb-false tag (node_at ns i).tag e in
-            omega (arith, looked-later ns tag i to h m, all_above tags tag q m)
-
-module _ (tags : List ℕ) (here k : ℕ) where
-  pub above-end : length tags ≤ k → k ≤ length tags → drop k tags ≡ tags_above here (drop k tags)
-  unfolding tags_above
-  above-end l m =
-      let e : k ≡ length tags = omega arith in
-      rw (e, drop-length tags)
-
-  pub above-stop : k < length tags → here < get_or tags k 0 → drop k tags ≡ tags_above here (drop k tags)
-  unfolding tags_above
-  above-stop h l = rw (drop-cons tags k 0 h, lt-leb (get_or tags k 0) here l)
-
-  pub above_on : k < length tags → get_or tags k 0 ≤ here → tags_above here (drop (k + 1) tags) ≡ tags_above here (drop k tags)
-  unfolding tags_above
-  above_on h l = rw (add-one k, drop-cons tags k 0 h, le-leb (get_or tags k 0) here l)
+            omega (arith, looked-later ns tag is i rest h m, all_above tags tag q m)
 
 -- ---- Item by item
 
-module _ (ns : List Node) (i to : ℕ) where
-  pub each-end : (tags : List ℕ) → to ≤ i → looked_in_each ns tags (members ns i to) ≡ 0
+module _ (ns : List Node) (is : List ℕ) where
+  pub each-end : (tags : List ℕ) → is ≡ [] → looked_in_each ns tags is ≡ 0
   unfolding looked_in_each
-  each-end tags h = rw (members-end ns i to h)
+  each-end tags h = rw h
 
-  pub each_next : (tags : List ℕ) → i < to
-      → looked_in_each ns tags (members ns i to) ≡ all_looked ns tags (inside ns i) + looked_in_each ns tags (members ns (next_node ns i) to)
-  unfolding looked_in_each
-  each_next tags h = rw (members-next ns i to h, read_is ns tags i)
-
-  pub over-end : (tag : ℕ) (always : Bool) (reads : List ℕ) (s : ℕ) → to ≤ i → over_group ns tag always reads s (members ns i to) ≡ 0
+  pub over-end : (tag : ℕ) (always : Bool) (reads : List ℕ) (s : ℕ) → is ≡ [] → over_group ns tag always reads s is ≡ 0
   unfolding over_group
-  over-end tag always reads s h = rw (members-end ns i to h)
+  over-end tag always reads s h = rw h
 
-  pub over-next : (tag : ℕ) (always : Bool) (reads : List ℕ) (s : ℕ) → i < to
-      → over_group ns tag always reads s (members ns i to)
-      ≡ group_at ns tag always reads s i + over_group ns tag always reads s (members ns (next_node ns i) to)
-  unfolding over_group
-  over-next tag always reads s h = rw (members-next ns i to h)
-
-  pub both_end : (s : ℕ) → to ≤ i → over_both ns s (members ns i to) ≡ 0
+  pub both_end : (s : ℕ) → is ≡ [] → over_both ns s is ≡ 0
   unfolding over_both
-  both_end s h = rw (members-end ns i to h)
+  both_end s h = rw h
 
-  pub both-next : (s : ℕ) → i < to → over_both ns s (members ns i to) ≡ both_items ns s i + over_both ns s (members ns (next_node ns i) to)
-  unfolding over_both
-  both-next s h = rw (members-next ns i to h)
+  module _ (i : ℕ) (rest : List ℕ) (h : is ≡ i ∷ rest) where
+    pub each_next : (tags : List ℕ) → looked_in_each ns tags is ≡ all_looked ns tags (inside ns i) + looked_in_each ns tags rest
+    unfolding looked_in_each
+    each_next tags = rw (h, read_is ns tags i)
+
+    pub over-next : (tag : ℕ) (always : Bool) (reads : List ℕ) (s : ℕ)
+        → over_group ns tag always reads s is ≡ group_at ns tag always reads s i + over_group ns tag always reads s rest
+    unfolding over_group
+    over-next tag always reads s = rw h
+
+    pub both-next : (s : ℕ) → over_both ns s is ≡ both_items ns s i + over_both ns s rest
+    unfolding over_both
+    both-next s = rw h
 
 -- ---- The sums fit
 
@@ -145,9 +136,9 @@ module _ (ns : List Node) (w : Within ns) where
   unfolding frame_items items_in
   items-few = go (find_vr ns Tags.PerFrameFunctionalGroupsSequence SQ (root ns))
     where
-      go : (found : Num) → length (inside_of ns found) ≤ length ns
+      go : (found : Option ℕ) → length (inside_of ns found) ≤ length ns
       go None = omega arith
-      go (Is p) = inside-few ns w p
+      go (Some p) = inside-few ns w p
 
 -- 134,217,728 × 134,217,728.
 square : (l m : ℕ) → l ≤ most_rows → m ≤ l → l * m ≤ 18014398509481984
@@ -202,13 +193,13 @@ module _ (ns : List Node) (tag : ℕ) (reads : List ℕ) (s i : ℕ) where
   group-lacks always e = rw (e, or-true always)
 
   -- In the item, and looked for in the shared item all the same, or not.
-  pub group-both : (always : Bool) → always ≡ true → (g : ℕ) → find ns tag (inside ns i) ≡ Is g
+  pub group-both : (always : Bool) → always ≡ true → (g : ℕ) → find ns tag (inside ns i) ≡ Some g
       → group_at ns tag always reads s i
       ≡ looked_at ns tag (inside ns i) + (looked_at ns tag (inside ns s) + looked_in_each ns reads (inside ns g))
   unfolding group_at group_sum in_shared
   group-both always p g e = rw (p, e)
 
-  pub group-own : (always : Bool) → always ≡ false → (g : ℕ) → find ns tag (inside ns i) ≡ Is g
+  pub group-own : (always : Bool) → always ≡ false → (g : ℕ) → find ns tag (inside ns i) ≡ Some g
       → group_at ns tag always reads s i ≡ looked_at ns tag (inside ns i) + (0 + looked_in_each ns reads (inside ns g))
   unfolding group_at group_sum in_shared
   group-own always p g e = rw (p, e)

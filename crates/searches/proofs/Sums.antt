@@ -1,4 +1,5 @@
 -- Sums of searches: by tags, over items, and each group over all frames; and that they are at most so many times the nodes.
+use Rattle.std.specs.Prelude.{Option, Some, None}
 use mathlib.Core.Path.{◌≡◌, refl, ap}
 use Prim.Native.Nat.{ℕ, zero, suc, ◌+◌, ◌-◌, ◌*◌, ◌≤◌}
 use native.Mathlib.Omega.{arith}
@@ -8,8 +9,6 @@ use mathlib.Core.Bool.{Bool, true, false, cond, ◌||◌}
 use lib.ListN.{length, get_or-eq_default}
 use lib.Dec.{ltb}
 use borrow.Author.Tests.{ltb-true, ltb-false}
-use Rattle.value.specs.declared.Num.{Num}
-use Rattle.value.specs.declared.Num.TheVariants.{Is, None}
 use Rattle.node.specs.Nodes.{Node, no_node, node_at, next_node, members_by, members, inside}
 use Rattle.node.specs.Find.{absent, or_else, find}
 use Rattle.element.specs.Elements.{inside_of}
@@ -86,10 +85,10 @@ module _ (ns : List Node) (w : Within ns) (tags : List ℕ) where
           ≡ 0 = ap (λ (n : Node). n.descendants) (get_or-eq_default ns no_node (ltb-false g (length ns) e)) in
           rw (members-end ns (g + 1) (next_node ns g) (omega arith)) (omega arith)
 
-  pub group-read : (found : Num) → looked_in_each ns tags (inside_of ns found) ≤ length tags * length ns
+  pub group-read : (found : Option ℕ) → looked_in_each ns tags (inside_of ns found) ≤ length tags * length ns
   unfolding looked_in_each
   group-read None = omega arith
-  group-read (Is g) = inside-read g
+  group-read (Some g) = inside-read g
 
 -- ---- A group over all frames
 

@@ -1,14 +1,15 @@
 -- How the code adds up the searches: each group over all frames, so the part in the shared item is worked out once. None of this is in
 -- the papers.
-use Rattle.std.specs.Prelude.{◌≡◌, ℕ, ◌+◌, ◌*◌, ◌≤◌, List, [], ◌∷◌, Bool, true, false, cond, leb, length, take}
+use Rattle.std.specs.Prelude.{◌≡◌, ℕ, ◌+◌, ◌*◌, ◌≤◌, List, [], ◌∷◌, Bool, true, false, cond, leb, length, take, Result, Ok, Err}
 use Rattle.dataset.specs.Answer.{width}
 use Rattle.node.specs.Nodes.{Node, inside}
 use Rattle.node.specs.Find.{find}
 use Rattle.node.specs.Internal.{Table}
 use Rattle.basics.specs.Tags
 use Rattle.element.specs.Elements.{inside_of}
-use Rattle.conformance.specs.declared.JudgeAnswer.{JudgeAnswer}
-use Rattle.conformance.specs.declared.JudgeAnswer.TheVariants as judged
+use Rattle.dataset.specs.declared.ReadError.{ReadError}
+use Rattle.conformance.specs.declared.Outcome.{Outcome}
+use Rattle.conformance.specs.declared.Outcome.TheVariants as outcome
 use Rattle.searches.specs.declared.SharedGroup.{SharedGroup}
 use Rattle.searches.specs.Count.{looked_at}
 use Rattle.searches.specs.Searches.{Search, GroupSearch, looks_for, root_searches, mask_searches, looked_in_each, group_sum, both_items}
@@ -100,9 +101,7 @@ pub record InShared (ns : List Node) (tag : ℕ) (reads : List ℕ) (s : ℕ) (p
   pub read : part.read ≡ looked_in_each ns reads (inside_of ns (find ns tag (inside ns s)))
 
 -- If judging accepted, the row buffer begins with its rows.
-abbrev pub RowsLeft : List ℕ → List ℕ → JudgeAnswer → Type 0
-RowsLeft s rows (judged.Accepted n) = (width * n ≤ length rows) × Table s (take (width * n) rows)
-RowsLeft s rows (judged.Broken n rule frame) = Unit {0}
-RowsLeft s rows (judged.Refused code offset) = Unit {0}
-RowsLeft s rows judged.TooLarge = Unit {0}
-RowsLeft s rows judged.NoRoom = Unit {0}
+abbrev pub RowsLeft : List ℕ → List ℕ → Result Outcome ReadError → Type 0
+RowsLeft s rows (Ok (outcome.Accepted n)) = (width * n ≤ length rows) × Table s (take (width * n) rows)
+RowsLeft s rows (Ok (outcome.Broken n rule frame)) = Unit {0}
+RowsLeft s rows (Err e) = Unit {0}

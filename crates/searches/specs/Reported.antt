@@ -1,20 +1,19 @@
 -- What `judge` reports about its searches (document 02, Q-11): their sum with code 0, and 0 with every other answer.
-use Rattle.std.specs.Prelude.{ℕ, List}
+use Rattle.std.specs.Prelude.{ℕ, List, Result, Ok, Err}
 use Rattle.basics.specs.Fields.{Fields}
 use Rattle.node.specs.Nodes.{nodes_of}
-use Rattle.conformance.specs.declared.JudgeAnswer.{JudgeAnswer}
-use Rattle.conformance.specs.declared.JudgeAnswer.TheVariants as judged
+use Rattle.dataset.specs.declared.ReadError.{ReadError}
+use Rattle.conformance.specs.declared.Outcome.{Outcome}
+use Rattle.conformance.specs.declared.Outcome.TheVariants as outcome
 use Rattle.conformance.specs.Judging as judging
 use Rattle.conformance.specs.Judging.{judge_of}
 use Rattle.searches.specs.declared.Counted.{Counted}
 use Rattle.searches.specs.Searches.{searches_of}
 
-abbrev pub if_accepted : ℕ → JudgeAnswer → ℕ
-if_accepted sum (judged.Accepted n) = sum
-if_accepted sum (judged.Broken n rule frame) = 0
-if_accepted sum (judged.Refused code offset) = 0
-if_accepted sum judged.TooLarge = 0
-if_accepted sum judged.NoRoom = 0
+abbrev pub if_accepted : ℕ → Result Outcome ReadError → ℕ
+if_accepted sum (Ok (outcome.Accepted n)) = sum
+if_accepted sum (Ok (outcome.Broken n rule frame)) = 0
+if_accepted sum (Err e) = 0
 
 unfoldable pub reported_of : List ℕ → List ℕ → ℕ
 reported_of s buffer = if_accepted (searches_of (nodes_of s)) (judge_of s buffer)

@@ -1,8 +1,6 @@
 -- The searches that judging is said to make (document 02, Q-11), as three tables, and the sum of what they look at. Each
 -- search is made once for each rule, whatever the rule's conditions. docs/SEARCHES.md shows the tables.
-use Rattle.std.specs.Prelude.{ℕ, ◌+◌, List, [], ◌∷◌, Bool, true, false, cond, ◌||◌, length}
-use Rattle.value.specs.declared.Num.{Num}
-use Rattle.value.specs.declared.Num.TheVariants.{Is, None}
+use Rattle.std.specs.Prelude.{ℕ, ◌+◌, List, [], ◌∷◌, Bool, true, false, cond, ◌||◌, length, Option, Some, None}
 use Rattle.node.specs.Nodes.{Node, root, inside}
 use Rattle.node.specs.Find.{absent, find}
 use Rattle.basics.specs.Tags
@@ -138,9 +136,9 @@ unfoldable pub frames_sum : List Node → ℕ → List ℕ → ℕ
 frames_sum ns s [] = 0
 frames_sum ns s (i ∷ is) = frame_sum ns s i + frames_sum ns s is
 
-abbrev pub over_frames : List Node → Num → ℕ
+abbrev pub over_frames : List Node → Option ℕ → ℕ
 over_frames ns None = 0
-over_frames ns (Is s) = frames_sum ns s (frame_items ns)
+over_frames ns (Some s) = frames_sum ns s (frame_items ns)
 
 -- The sum of an accepted data set's searches: it has N frame items, one shared item and its mask items.
 unfoldable pub searches_of : List Node → ℕ

@@ -1,9 +1,9 @@
 // How far judging looks: the searches of document 02, each counted, and their sum, which `judge` reports for an accepted data set.
 #![tactic(auto)]
 
-ghost use Rattle.std.specs.Prelude.{◌≡◌, true, ◌+◌, ◌*◌, ◌^◌, ◌≤◌, ◌<◌, length, drop};
+ghost use Rattle.std.specs.Prelude.{◌≡◌, true, false, [], ◌+◌, ◌*◌, ◌^◌, ◌≤◌, ◌<◌, length, drop};
 ghost use Rattle.node.specs.Nodes.{nodes_of, members};
-ghost use Rattle.node.specs.Internal.{Table, Ascends};
+ghost use Rattle.node.specs.Internal.{Ascends};
 ghost use Rattle.value.specs.Internal.{Below};
 ghost use Rattle.element.specs.Elements.{inside_of};
 ghost use Rattle.element.specs.Frames.{shared_item, frame_items};
@@ -16,8 +16,9 @@ ghost use Rattle.searches.specs.Reported.{if_accepted, counted_of, fields_of};
 ghost use Rattle.searches.specs.Plain.{Looks, LooksIn};
 
 use basics::tags;
-use conformance::JudgeAnswer;
-use value::Num;
+use conformance::Outcome;
+use dataset::ReadError;
+use node::DataSet;
 
 // The tables of specs/Searches: the tags sought in the root, in ascending order.
 const ROOT: [usize; 33] = [
@@ -96,8 +97,17 @@ const TABLE: [usize; 3] = [tags::LUT_FUNCTION, tags::LUT_DESCRIPTOR, tags::LUT_D
 // What the plain search finds, and how many rows it looks at.
 #[derive(Clone, Copy)]
 struct Looked {
-    pub found: Num,
+    pub found: Option<usize>,
     pub count: usize,
+}
+
+// A group that is sought at each frame: its tag, whether it is always sought in the shared item too, and the tags sought in its items.
+#[derive(Clone, Copy)]
+struct Group<'a> {
+    tag: usize,
+    always: bool,
+    reads: &'a [usize],
+    ghost few: { length reads.now ≤ 3 },
 }
 
 // A group in the shared item: the rows looked at to find it, and those looked at in its items.
@@ -110,110 +120,92 @@ struct SharedGroup {
 // The answer of `judge`, and the sum of its searches: 0 with every answer but code 0.
 #[derive(Clone, Copy)]
 pub struct Counted {
-    pub answer: JudgeAnswer,
+    pub answer: Result<Outcome, ReadError>,
     pub searches: usize,
 }
 
-// The loop of `node::find_tag`, with a count of the rows that it looks at.
-fn look(bytes: &[u8], rows: &[u32], from: usize, to: usize, wanted: usize) -> Looked
-    requires { Table bytes.now rows.now
-        × ((to ≤ length (nodes_of bytes.now)) × Ascends (nodes_of bytes.now) 0 (members (nodes_of bytes.now) from to)) }
-    ensures { Looks (nodes_of bytes.now) wanted from to result }
+// The loop of `node::find_tag`, with a count of the rows that it looks at. (By hand as there: `within` of `Looks` says that what is found is
+// before `to`, and of the members that `set.members` gives only that they are nodes is promised.)
+fn look(set: &DataSet, from: usize, to: usize, wanted: usize) -> Looked
+    requires { (to ≤ length (nodes_of set.now)) × Ascends (nodes_of set.now) 0 (members (nodes_of set.now) from to) }
+    ensures { Looks (nodes_of set.now) wanted from to result }
 {
     let mut count: usize = 0;
     let mut i = from;
     while i < to {
-        let here = node::tag(bytes, rows, i);
+        let here = set.tag(i);
         count += 1;
         if wanted <= here {
             return if here == wanted {
                 Looked {
-                    found: Num::Is(i),
+                    found: Some(i),
                     count,
                 }
             } else {
-                Looked {
-                    found: Num::None,
-                    count,
-                }
+                Looked { found: None, count }
             };
         }
-        i = node::next(bytes, rows, i);
+        i = set.next(i);
     }
-    Looked {
-        found: Num::None,
-        count,
-    }
+    Looked { found: None, count }
 }
 
 // ---- Sums of searches
 
 // All the tags, each sought among the members from `from` up to `to`.
-fn look_all(bytes: &[u8], rows: &[u32], from: usize, to: usize, wanted: &[usize]) -> usize
-    requires { Table bytes.now rows.now
-        × ((to ≤ length (nodes_of bytes.now))
-        × (Ascends (nodes_of bytes.now) 0 (members (nodes_of bytes.now) from to) × (length wanted.now ≤ 64))) }
-    ensures { result ≡ all_looked (nodes_of bytes.now) wanted.now (members (nodes_of bytes.now) from to) }
+fn look_all(set: &DataSet, from: usize, to: usize, wanted: &[usize]) -> usize
+    requires { (to ≤ length (nodes_of set.now))
+        × (Ascends (nodes_of set.now) 0 (members (nodes_of set.now) from to) × (length wanted.now ≤ 64)) }
+    ensures { result ≡ all_looked (nodes_of set.now) wanted.now (members (nodes_of set.now) from to) }
 {
     let mut sum: usize = 0;
-    let mut k: usize = 0;
-    while k < wanted.len() {
-        let l = look(bytes, rows, from, to, wanted[k]);
-        sum += l.count;
-        k += 1;
+    for &tag in wanted {
+        sum += look(set, from, to, tag).count;
     }
     sum
 }
 
-// Where the tags above `here` begin.
-fn first_above(wanted: &[usize], from: usize, here: usize) -> usize
-    requires { from ≤ length wanted.now }
-    ensures { (result ≤ length wanted.now)
-        × (drop result wanted.now ≡ tags_above here (drop from wanted.now)) }
+// The tags from the first one above `here` on.
+#[tactic(auto, unfolding(crate::specs::Internal::tags_above))]
+fn tags_above(mut wanted: &[usize], here: usize) -> &[usize]
+    ensures { result.now ≡ tags_above here wanted.now }
 {
-    let mut k = from;
-    while k < wanted.len() {
-        if here < wanted[k] {
-            return k;
-        }
-        k += 1;
+    while let [tag, rest @ ..] = wanted
+        && *tag <= here
+    {
+        wanted = rest;
     }
-    k
+    wanted
 }
 
-// As `look_all` in one walk, for ascending tags: those from k on are still sought, and each looks at the member.
-fn look_along(bytes: &[u8], rows: &[u32], from: usize, to: usize, wanted: &[usize]) -> usize
-    requires { Table bytes.now rows.now
-        × ((to ≤ length (nodes_of bytes.now))
-        × (Ascends (nodes_of bytes.now) 0 (members (nodes_of bytes.now) from to)
-        × ((length wanted.now ≤ 64) × (rises 0 wanted.now ≡ true)))) }
-    ensures { result ≡ all_looked (nodes_of bytes.now) wanted.now (members (nodes_of bytes.now) from to) }
+// As `look_all` in one walk, for ascending tags: those left are still sought, and each looks at the member.
+fn look_along(set: &DataSet, from: usize, to: usize, wanted: &[usize]) -> usize
+    requires { (to ≤ length (nodes_of set.now))
+        × (Ascends (nodes_of set.now) 0 (members (nodes_of set.now) from to)
+        × ((length wanted.now ≤ 64) × (rises 0 wanted.now ≡ true))) }
+    ensures { result ≡ all_looked (nodes_of set.now) wanted.now (members (nodes_of set.now) from to) }
 {
     let mut sum: usize = 0;
-    let mut k: usize = 0;
-    let mut i = from;
-    while i < to {
-        if k == wanted.len() {
-            return sum;
+    let mut left = wanted;
+    for member in set.members(from, to) {
+        if left.is_empty() {
+            break;
         }
-        sum += wanted.len() - k;
-        k = first_above(wanted, k, node::tag(bytes, rows, i));
-        i = node::next(bytes, rows, i);
+        sum += left.len();
+        left = tags_above(left, set.tag(member));
     }
     sum
 }
 
 // All the tags, in each item from `from` up to `to`.
-fn look_each(bytes: &[u8], rows: &[u32], from: usize, to: usize, wanted: &[usize]) -> usize
-    requires { Table bytes.now rows.now × ((to ≤ length (nodes_of bytes.now)) × (length wanted.now ≤ 64)) }
-    ensures { result ≡ looked_in_each (nodes_of bytes.now) wanted.now (members (nodes_of bytes.now) from to) }
+fn look_each(set: &DataSet, from: usize, to: usize, wanted: &[usize]) -> usize
+    requires { (to ≤ length (nodes_of set.now)) × (length wanted.now ≤ 64) }
+    ensures { result ≡ looked_in_each (nodes_of set.now) wanted.now (members (nodes_of set.now) from to) }
 {
     let mut sum: usize = 0;
-    let mut j = from;
-    while j < to {
-        let end = node::next(bytes, rows, j);
-        sum += look_all(bytes, rows, j + 1, end, wanted);
-        j = end;
+    for item in set.members(from, to) {
+        let end = set.next(item);
+        sum += look_all(set, item + 1, end, wanted);
     }
     sum
 }
@@ -221,71 +213,80 @@ fn look_each(bytes: &[u8], rows: &[u32], from: usize, to: usize, wanted: &[usize
 // ---- A group over all frames
 
 // All the tags, in each item of the group that was found.
-fn look_group(bytes: &[u8], rows: &[u32], found: Num, wanted: &[usize]) -> usize
-    requires { Table bytes.now rows.now × (Below (length (nodes_of bytes.now)) found × (length wanted.now ≤ 64)) }
-    ensures { result ≡ looked_in_each (nodes_of bytes.now) wanted.now (inside_of (nodes_of bytes.now) found) }
+fn look_group(set: &DataSet, found: Option<usize>, wanted: &[usize]) -> usize
+    requires { Below (length (nodes_of set.now)) found × (length wanted.now ≤ 64) }
+    ensures { result ≡ looked_in_each (nodes_of set.now) wanted.now (inside_of (nodes_of set.now) found) }
 {
     match found {
-        Num::None => 0,
-        Num::Is(g) => {
-            let end = node::next(bytes, rows, g);
-            look_each(bytes, rows, g + 1, end, wanted)
+        None => 0,
+        Some(g) => {
+            let end = set.next(g);
+            look_each(set, g + 1, end, wanted)
         }
     }
 }
 
 // The plain search in an item.
-fn look_item(bytes: &[u8], rows: &[u32], item: usize, wanted: usize) -> Looked
-    requires { Table bytes.now rows.now × (item < length (nodes_of bytes.now)) }
-    ensures { LooksIn (nodes_of bytes.now) wanted item result }
+fn look_item(set: &DataSet, item: usize, wanted: usize) -> Looked
+    requires { item < length (nodes_of set.now) }
+    ensures { LooksIn (nodes_of set.now) wanted item result }
 {
-    let end = node::next(bytes, rows, item);
-    look(bytes, rows, item + 1, end, wanted)
+    let end = set.next(item);
+    look(set, item + 1, end, wanted)
+}
+
+// A group of which nothing is read, always sought in both items.
+fn always<'a>(tag: usize) -> Group<'a>
+    ensures tag { result.tag ≡ tag }
+    ensures always { result.always ≡ true }
+    ensures reads { result.reads.now ≡ [] }
+{
+    Group {
+        tag,
+        always: true,
+        reads: &[],
+    }
+}
+
+// A group that is sought in the shared item only where the frame's item lacks it.
+fn unless_here<'a>(tag: usize, reads: &'a [usize]) -> Group<'a>
+    requires { length reads.now ≤ 3 }
+    ensures tag { result.tag ≡ tag }
+    ensures always { result.always ≡ false }
+    ensures reads { result.reads.now ≡ reads.now }
+{
+    Group {
+        tag,
+        always: false,
+        reads,
+    }
 }
 
 // A group in the shared item, worked out once for all frames.
-fn shared_group(
-    bytes: &[u8],
-    rows: &[u32],
-    shared: usize,
-    group: usize,
-    reads: &[usize],
-) -> SharedGroup
-    requires { Table bytes.now rows.now × ((shared < length (nodes_of bytes.now)) × (length reads.now ≤ 3)) }
-    ensures { InShared (nodes_of bytes.now) group reads.now shared result }
+fn shared_group(set: &DataSet, shared: usize, group: &Group) -> SharedGroup
+    requires { shared < length (nodes_of set.now) }
+    ensures { InShared (nodes_of set.now) group.now.tag group.now.reads.now shared result }
 {
-    let l = look_item(bytes, rows, shared, group);
-    let found = l.found;
+    let l = look_item(set, shared, group.tag);
     SharedGroup {
         looked: l.count,
-        read: look_group(bytes, rows, found, reads),
+        read: look_group(set, l.found, group.reads),
     }
 }
 
 // A group at the frame of the item: in the item and, if it is not there or always, in the shared item.
-fn group_at(
-    bytes: &[u8],
-    rows: &[u32],
-    shared: usize,
-    part: SharedGroup,
-    group: usize,
-    always: bool,
-    reads: &[usize],
-    item: usize,
-) -> usize
-    requires { Table bytes.now rows.now
-        × ((item < length (nodes_of bytes.now))
-        × (InShared (nodes_of bytes.now) group reads.now shared part × (length reads.now ≤ 3))) }
-    ensures { result ≡ group_at (nodes_of bytes.now) group always reads.now shared item }
+fn group_at(set: &DataSet, shared: usize, part: SharedGroup, group: &Group, item: usize) -> usize
+    requires { (item < length (nodes_of set.now)) × InShared (nodes_of set.now) group.now.tag group.now.reads.now shared part }
+    ensures { result ≡ group_at (nodes_of set.now) group.now.tag group.now.always group.now.reads.now shared item }
 {
-    let l = look_item(bytes, rows, item, group);
+    let l = look_item(set, item, group.tag);
     let here = l.count;
     let found = l.found;
     match found {
-        Num::None => here + part.looked + part.read,
-        Num::Is(g) => {
-            let read = look_group(bytes, rows, Num::Is(g), reads);
-            if always {
+        None => here + part.looked + part.read,
+        Some(g) => {
+            let read = look_group(set, Some(g), group.reads);
+            if group.always {
                 here + part.looked + read
             } else {
                 here + read
@@ -294,108 +295,86 @@ fn group_at(
     }
 }
 
-fn over_frames(
-    bytes: &[u8],
-    rows: &[u32],
-    shared: usize,
-    group: usize,
-    always: bool,
-    reads: &[usize],
-) -> usize
-    requires { Table bytes.now rows.now × ((shared < length (nodes_of bytes.now)) × (length reads.now ≤ 3)) }
-    ensures value { result ≡ over_group (nodes_of bytes.now) group always reads.now shared (frame_items (nodes_of bytes.now)) }
+fn over_frames(set: &DataSet, shared: usize, group: &Group) -> usize
+    requires { shared < length (nodes_of set.now) }
+    ensures value { result ≡ over_group (nodes_of set.now) group.now.tag group.now.always group.now.reads.now shared (frame_items (nodes_of set.now)) }
     ensures upper_bound { result ≤ 2 ^ 57 }
 {
-    let part = shared_group(bytes, rows, shared, group, reads);
-    let items = element::frame_items(bytes, rows);
-    let end = items.end;
-    let mut at = items.at;
+    let part = shared_group(set, shared, group);
+    let items = element::frame_items(set);
     let mut sum: usize = 0;
-    while at < end {
-        sum += group_at(bytes, rows, shared, part, group, always, reads, at);
-        at = node::next(bytes, rows, at);
+    for item in set.members(items.at, items.end) {
+        sum += group_at(set, shared, part, group, item);
     }
     sum
 }
 
-// Rule 27: the elements of each frame's item, and those of the shared item for each frame.
-fn both_items(bytes: &[u8], rows: &[u32], shared: usize) -> usize
-    requires { Table bytes.now rows.now × (shared < length (nodes_of bytes.now)) }
-    ensures { result ≡ over_both (nodes_of bytes.now) shared (frame_items (nodes_of bytes.now)) }
+// Rule 27: the elements of each frame's item, and those of the shared item for each frame. A loop of its own, since one function for both
+// would take what is added as a closure, with the sum's limit in its contract.
+fn both_items(set: &DataSet, shared: usize) -> usize
+    requires { shared < length (nodes_of set.now) }
+    ensures { result ≡ over_both (nodes_of set.now) shared (frame_items (nodes_of set.now)) }
 {
-    let own = element::count_items(bytes, rows, shared);
-    let items = element::frame_items(bytes, rows);
-    let end = items.end;
-    let mut at = items.at;
+    let own = element::count_items(set, shared);
+    let items = element::frame_items(set);
     let mut sum: usize = 0;
-    while at < end {
-        sum += element::count_items(bytes, rows, at) + own;
-        at = node::next(bytes, rows, at);
+    for item in set.members(items.at, items.end) {
+        sum += element::count_items(set, item) + own;
     }
     sum
 }
 
 // Each group of the table over all frames.
-fn groups_over(bytes: &[u8], rows: &[u32], shared: usize) -> usize
-    requires { Table bytes.now rows.now × (shared < length (nodes_of bytes.now)) }
-    ensures value { result ≡ over_groups (nodes_of bytes.now) frame_searches shared (frame_items (nodes_of bytes.now)) }
+fn groups_over(set: &DataSet, shared: usize) -> usize
+    requires { shared < length (nodes_of set.now) }
+    ensures value { result ≡ over_groups (nodes_of set.now) frame_searches shared (frame_items (nodes_of set.now)) }
     ensures upper_bound { result ≤ 7 * 2 ^ 57 }
 {
     let window = WINDOW;
     let shift = SHIFT;
     let relation = RELATION;
     let table = TABLE;
-    over_frames(bytes, rows, shared, CONTENT, true, &window[..0])
-        + over_frames(bytes, rows, shared, CHARACTERISTICS, false, &window[..0])
-        + over_frames(bytes, rows, shared, VOI, false, &window)
-        + over_frames(bytes, rows, shared, SHIFTS, false, &window[..0])
-        + over_frames(bytes, rows, shared, SHIFTS, false, &shift)
-        + over_frames(bytes, rows, shared, PROPERTIES, false, &relation)
-        + over_frames(bytes, rows, shared, LUTS, false, &table)
+    over_frames(set, shared, &always(CONTENT))
+        + over_frames(set, shared, &unless_here(CHARACTERISTICS, &[]))
+        + over_frames(set, shared, &unless_here(VOI, &window))
+        + over_frames(set, shared, &unless_here(SHIFTS, &[]))
+        + over_frames(set, shared, &unless_here(SHIFTS, &shift))
+        + over_frames(set, shared, &unless_here(PROPERTIES, &relation))
+        + over_frames(set, shared, &unless_here(LUTS, &table))
 }
 
 // Everything looked at for frames.
-fn frames_sum(bytes: &[u8], rows: &[u32]) -> usize
-    requires { Table bytes.now rows.now }
-    ensures value { result ≡ over_frames (nodes_of bytes.now) (shared_item (nodes_of bytes.now)) }
+fn frames_sum(set: &DataSet) -> usize
+    ensures value { result ≡ over_frames (nodes_of set.now) (shared_item (nodes_of set.now)) }
     ensures upper_bound { result ≤ 2 ^ 60 }
 {
-    match element::shared_item(bytes, rows) {
-        Num::None => 0,
-        Num::Is(s) => both_items(bytes, rows, s) + groups_over(bytes, rows, s),
+    match element::shared_item(set) {
+        None => 0,
+        Some(s) => both_items(set, s) + groups_over(set, s),
     }
 }
 
 // The sum of all searches.
-fn sum(bytes: &[u8], rows: &[u32]) -> usize
-    requires { Table bytes.now rows.now }
-    ensures { result ≡ searches_of (nodes_of bytes.now) }
+fn sum(set: &DataSet) -> usize
+    ensures { result ≡ searches_of (nodes_of set.now) }
 {
     let root = ROOT;
     let mask = MASK;
-    let masks = element::mask_items(bytes, rows);
-    let end = node::count(bytes, rows);
-    look_along(bytes, rows, 0, end, &root)
-        + look_each(bytes, rows, masks.at, masks.end, &mask)
-        + frames_sum(bytes, rows)
+    let masks = element::mask_items(set);
+    let end = set.count();
+    look_along(set, 0, end, &root) + look_each(set, masks.at, masks.end, &mask) + frames_sum(set)
 }
 
 // ---- What `judge` reports
 
 // The sum, with code 0; the row buffer is as judging left it.
-pub fn reported(bytes: &[u8], rows: &[u32], answer: JudgeAnswer) -> usize
+pub fn reported(bytes: &[u8], rows: &[u32], answer: Result<Outcome, ReadError>) -> usize
     requires { RowsLeft bytes.now rows.now answer }
     ensures { result ≡ if_accepted (searches_of (nodes_of bytes.now)) answer }
 {
     match answer {
-        JudgeAnswer::Accepted(n) => {
-            let end = dataset::WIDTH * n;
-            sum(bytes, &rows[..end])
-        }
-        JudgeAnswer::Broken(_, _, _) => 0,
-        JudgeAnswer::Refused(_, _) => 0,
-        JudgeAnswer::TooLarge => 0,
-        JudgeAnswer::NoRoom => 0,
+        Ok(Outcome::Accepted(n)) => sum(&DataSet::new(bytes, &rows[..dataset::WIDTH * n])),
+        _ => 0,
     }
 }
 

@@ -107,9 +107,8 @@ bump-most (a ∷ c) (suc x) zero = omega arith
 bump-most (a ∷ c) (suc x) (suc y) = bump-most c x y
 
 -- Room for the cells that are left.
-pub room_next : (c : List ℕ) (x l i : ℕ) → i < l → ((y : ℕ) → get_or c y 0 + (l - i) < 2 ^ 64) → (y : ℕ)
-    → get_or (set c x (get_or c x 0 + 1)) y 0 + (l - (i + 1)) < 2 ^ 64
-room_next c x l i h room y = omega (arith, bump-most c x y, room y)
+pub room-next : (c : List ℕ) (x l i : ℕ) → i < l → Room c (l - i) → Room (set c x (get_or c x 0 + 1)) (l - (i + 1))
+room-next c x l i h room = record { below = λ y. omega (arith, bump-most c x y, room.below y) }
 
 pub tallied-all : (l c : List ℕ) (i : ℕ) → length l ≤ i → tallied (drop i l) c ≡ c
 unfolding tallied

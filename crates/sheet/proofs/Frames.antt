@@ -1,5 +1,6 @@
 -- Counting one frame more leaves one frame fewer to count, so what is counted and what is left come to the same; the cursor over the
 -- items moves with the frames.
+use Rattle.std.specs.Prelude.{Some, None}
 use mathlib.Core.Path.{◌≡◌, sym, ap, ◌∙◌}
 use mathlib.Core.Bool.{Bool, true, false, cond}
 use mathlib.Core.List.{List}
@@ -7,7 +8,6 @@ use Prim.Native.Nat.{ℕ, zero, suc, ◌+◌, ◌-◌, ◌*◌, ◌≤◌, ◌<�
 use native.Mathlib.Omega.{arith}
 use lib.ListN.{length, drop}
 use borrow.Author.Tests.{le-leb, ne_eqb}
-use Rattle.value.specs.declared.Num.TheVariants.{Is, None}
 use Rattle.node.specs.Nodes.{Node}
 use Rattle.node.proofs.Walks.{members-end, members-next}
 use Rattle.element.specs.declared.Items.{Items}
@@ -16,7 +16,7 @@ use Rattle.element.specs.Elements.{first}
 use Rattle.element.specs.Frames.{frame_items}
 use Rattle.display.specs.Show.{picture_of}
 use Rattle.ranges.specs.Internal.{item_of}
-use Rattle.steps.specs.Internal.{ApplyingBelow}
+use Rattle.value.specs.Internal.{Below}
 use Rattle.sheet.specs.Sheet.{levels_of, natives_of}
 use Rattle.sheet.specs.Internal.{tallied, Room}
 use Rattle.display.specs.Internal.{IsItem}
@@ -26,7 +26,7 @@ use Rattle.sheet.proofs.Runs.{tallied-most}
 -- ---- Items
 
 module _ (ns : List Node) (f : ℕ) (c : Items) (w : Along ns (drop (f - 1) (frame_items ns)) c) (low : 1 ≤ f) where
-  pub item-some : c.at < c.end → IsItem ns f (Is c.at)
+  pub item-some : c.at < c.end → IsItem ns f (Some c.at)
   item-some h = record {
     is = rw (le-leb 1 f low) (sym (ap first (sym w.ahead ∙ members-next ns c.at c.end h)));
     below = omega (arith, w.inner);
@@ -90,6 +90,6 @@ room-rest f end m l now after h e a r = record { below = λ y. rw a (omega (arit
 
 -- ---- The mask item that applies
 
-pub item-below : (n w : ℕ) → w ≤ n → ApplyingBelow n (item_of w)
+pub item-below : (n w : ℕ) → w ≤ n → Below n (item_of w)
 item-below n zero h = tt
 item-below n (suc w) h = rw (ne_eqb (suc w) 0 (λ e. omega (arith, e))) (omega arith)

@@ -1,5 +1,6 @@
 -- What is promised of a sheet. Each picture of an accepted object has Rows × Columns cells, each a level (demand 3), so the
 -- counts of all of them add up; the rest follows what `sheet` answers back to what it was asked.
+use Rattle.std.specs.Prelude.{Option, Some, None, Result, Ok, Err}
 use mathlib.Core.Path.{◌≡◌, refl, sym, ap, ◌∙◌, subst}
 use mathlib.Core.Bool.{Bool, true, false, cond, ◌&&◌}
 use mathlib.Core.List.{List, [], ◌∷◌}
@@ -15,8 +16,6 @@ use Rattle.basics.proofs.Tests.{and_both}
 use Rattle.basics.specs.Bytes.{IsBytes}
 use Rattle.dataset.specs.Answer.{width}
 use Rattle.dataset.specs.Tree.{rows_of}
-use Rattle.value.specs.declared.Num.{Num}
-use Rattle.value.specs.declared.Num.TheVariants.{Is, None}
 use Rattle.node.specs.Nodes.{Node, nodes_of, root}
 use Rattle.element.specs.Frames.{frames_of}
 use Rattle.steps.specs.Steps.{Picture, steps_of}
@@ -30,8 +29,8 @@ use Rattle.display.proofs.Drawing.{drawing}
 use Rattle.lines.proofs.Lists.{up_to-length}
 use Rattle.sheet.specs.declared.Numbers.{Numbers}
 use Rattle.display.specs.declared.Scene.{Scene}
-use Rattle.sheet.specs.declared.SheetAnswer.{SheetAnswer}
-use Rattle.sheet.specs.declared.SheetAnswer.TheVariants as answer
+use Rattle.sheet.specs.declared.SheetError.{SheetError}
+use Rattle.sheet.specs.declared.SheetError.TheVariants as error
 use Rattle.sheet.specs.Sheet.{times, levels_of, natives_of, counts_of, lowest_of, highest_of, sum_of, sheet_by, frames_sheet, no_sheet}
 use Rattle.sheet.specs.Answer.{accepted_answer, answer_for, sheet_for, sheet_of, fields_of}
 use Rattle.sheet.specs.Internal.{Few, First, Last}
@@ -126,7 +125,7 @@ module _ (s : List ℕ) (n a b : ℕ) (h : IsObject s n) (low : 1 ≤ a) (order 
   object-run : Run (nodes_of s) a (b - a + 1)
   object-run =
       run (nodes_of s) a (b - a + 1) (λ f l k. nothing-lacks s h.bytes h.sound f (omega (arith, low, l))
-      (subst (λ (x : Num). f ≤ number_or0 x) (sym h.frames) (omega (arith, order, high, k))))
+      (subst (λ (x : Option ℕ). f ≤ number_or0 x) (sym h.frames) (omega (arith, order, high, k))))
 
   pub few-counts : (c : Scene) → IsScene (nodes_of s) c → (counts : List ℕ) → counts ≡ counts_of (levels_of (nodes_of s) a (b - a + 1))
       → Few counts
@@ -171,11 +170,11 @@ module _ (s : List ℕ) (n a b : ℕ) (h : IsObject s n) (low : 1 ≤ a) (order 
 -- ---- From the answer back to what was asked
 
 module _ (s : List ℕ) (a b : ℕ) where
-  frames-is : (n : Num) → 1 ≤ number_or0 n → n ≡ Is (number_or0 n)
-  frames-is (Is k) h = refl
+  frames-is : (n : Option ℕ) → 1 ≤ number_or0 n → n ≡ Some (number_or0 n)
+  frames-is (Some k) h = refl
   frames-is None h = absurd (omega arith)
 
-  answer-done : (n : ℕ) → Range s a b → accepted_answer (nodes_of s) a b n ≡ answer.Done n
+  answer-done : (n : ℕ) → Range s a b → accepted_answer (nodes_of s) a b n ≡ Ok n
   answer-done n r =
       frames-done (nodes_of s) a b n r.order (number_or0 (frames_of (nodes_of s)))
       (frames-is (frames_of (nodes_of s)) (omega (arith, r.first.low, r.first.high))) r.first.low r.last.high
@@ -185,7 +184,7 @@ module _ (s : List ℕ) (a b : ℕ) where
   was-range n e = go (leb a b) (is_frame_of (nodes_of s) a && is_frame_of (nodes_of s) b) refl refl e
     where
       go : (t u : Bool) → leb a b ≡ t → (is_frame_of (nodes_of s) a && is_frame_of (nodes_of s) b) ≡ u
-          → (fields_of (cond t (cond u (answer.Done n) answer.NoFrame) answer.WrongOrder)).code ≡ 0 → Range s a b
+          → (fields_of (cond t (cond u (Ok n) (Err error.NoFrame)) (Err error.WrongOrder))).code ≡ 0 → Range s a b
       go true true p q e =
           let w = and_both (is_frame_of (nodes_of s) a) (is_frame_of (nodes_of s) b) q in
           record { order = leb-true a b p; first = was-frame s a w.0; last = was-frame s b w.1 }
@@ -194,7 +193,7 @@ module _ (s : List ℕ) (a b : ℕ) where
 
   module _ (buffer : List ℕ) where
     answer-is : IsAccepted s → Range s a b → width * length (rows_of s) ≤ length buffer
-        → (sheet_of s a b buffer).answer ≡ answer.Done (length (rows_of s))
+        → (sheet_of s a b buffer).answer ≡ Ok (length (rows_of s))
     unfolding sheet_of
     answer-is acc r room = rw (judged-accepted s buffer acc room) (answer-done (length (rows_of s)) r)
 
@@ -207,17 +206,12 @@ module _ (s : List ℕ) (a b : ℕ) where
     unfolding sheet_of
     was-done e =
         let j = was-judged s buffer (λ x. (fields_of (answer_for (nodes_of s) a b x)).code)
-        (record { broken = λ n rule frame. refl; refused = λ code offset. refl; too_large = refl; no_room = refl }) e in
+        (record { refused = λ e. refl }) e in
         (j.accepted, (was-range (length j.accepted.rows) j.code, j.room))
 
-  refusal-zeros : (r : SheetAnswer) → 1 ≤ (fields_of r).code → sheet_for (nodes_of s) a b r ≡ no_sheet
-  refusal-zeros (answer.Done n) h = absurd (omega arith)
-  refusal-zeros (answer.Broken n rule frame) h = refl
-  refusal-zeros (answer.Refused code offset) h = refl
-  refusal-zeros answer.TooLarge h = refl
-  refusal-zeros answer.NoRoom h = refl
-  refusal-zeros answer.WrongOrder h = refl
-  refusal-zeros answer.NoFrame h = refl
+  refusal-zeros : (r : Result ℕ SheetError) → 1 ≤ (fields_of r).code → sheet_for (nodes_of s) a b r ≡ no_sheet
+  refusal-zeros (Ok n) h = absurd (omega arith)
+  refusal-zeros (Err e) h = refl
 
 -- ---- The claim
 
@@ -250,10 +244,10 @@ module _ (s : List ℕ) (bytes : IsBytes s) (a b : ℕ) (acc : IsAccepted s) (r 
 
   handed : (buffer : List ℕ) → width * length (rows_of s) ≤ length buffer → SheetBack s a b buffer
   handed buffer room =
-      let is : (sheet_of s a b buffer).answer ≡ answer.Done (length (rows_of s)) = answer-is s a b buffer acc r room in
+      let is : (sheet_of s a b buffer).answer ≡ Ok (length (rows_of s)) = answer-is s a b buffer acc r room in
       let sheet : (sheet_of s a b buffer).sheet ≡ frames_sheet (nodes_of s) a b = sheet-is s a b buffer ∙ ap (sheet_for (nodes_of s) a b) is in
       record {
-        rows = ap (λ (x : SheetAnswer). (fields_of x).rows) is;
+        rows = ap (λ (x : Result ℕ SheetError). (fields_of x).rows) is;
         of-pictures = sheet;
         pictures = whole;
         consistent = subst (λ (x : Numbers). Consistent x (b - a + 1) (image_size (nodes_of s))) (sym sheet) all-consistent;
@@ -262,7 +256,7 @@ module _ (s : List ℕ) (bytes : IsBytes s) (a b : ℕ) (acc : IsAccepted s) (r 
 pub sampling : Sampling
 sampling s bytes a b buffer =
     record {
-      done = λ acc r room. ap (λ (x : SheetAnswer). (fields_of x).code) (answer-is s a b buffer acc r room);
+      done = λ acc r room. ap (λ (x : Result ℕ SheetError). (fields_of x).code) (answer-is s a b buffer acc r room);
       nothing-else = was-done s a b buffer;
       as-drawn = λ e.
           let w = was-done s a b buffer e in

@@ -1,9 +1,7 @@
 -- What the counting functions require and promise. None of this is in the papers.
-use Rattle.std.specs.Prelude.{◌≡◌, Bool, ◌⊎◌, List, [], ◌∷◌, ℕ, ◌+◌, ◌-◌, ◌≤◌, ◌<◌, ◌^◌, length, get_or, set, drop, replicate}
-use Rattle.basics.specs.Limits.{most_masks}
+use Rattle.std.specs.Prelude.{◌≡◌, Bool, ◌⊎◌, List, [], ◌∷◌, ℕ, ◌+◌, ◌-◌, ◌≤◌, ◌<◌, ◌^◌, length, get_or, set, drop, replicate, Option}
 use Rattle.value.specs.Number.{number_or0}
 use Rattle.node.specs.Nodes.{Node, nodes_of}
-use Rattle.node.specs.Internal.{Table}
 use Rattle.element.specs.declared.Items.{Items}
 use Rattle.element.specs.Internal.{Along}
 use Rattle.element.specs.Frames.{frame_items, frames_of}
@@ -12,6 +10,7 @@ use Rattle.pixel.specs.Internal.{longest_row}
 use Rattle.lines.specs.Internal.{Shaded}
 use Rattle.display.specs.declared.Scene.{Scene}
 use Rattle.display.specs.Internal.{IsObject, IsScene}
+use Rattle.ranges.specs.declared.ToldItem.{ToldItem}
 use Rattle.ranges.specs.Internal.{Applied, Known}
 use Rattle.sheet.specs.declared.Held.{Held}
 use Rattle.sheet.specs.declared.Counted.{Counted}
@@ -48,16 +47,13 @@ pub record Last (counts : List ℕ) (r : ℕ) : Type 0 where
 -- ---- What is worked out ahead
 
 -- What is worked out ahead, for all frames at once.
-pub record IsAhead (ns : List Node) (n : ℕ) (which keys answers : List ℕ) : Type 0 where
+pub record IsAhead (ns : List Node) (n : ℕ) (which : List ℕ) (known : List (Option ToldItem)) : Type 0 where
   pub applied : Applied ns n which
   pub size : n < length which
-  pub known : Known ns keys answers
-  pub key-room : most_masks ≤ length keys
-  pub answer-room : most_masks ≤ length answers
+  pub is-known : Known ns known
 
 -- Frames a to b of an accepted object of n frames, with the items from frame a's on.
-pub record RangeReady (s rows : List ℕ) (n : ℕ) (c : Scene) (start : Items) (a b : ℕ) : Type 0 where
-  pub table : Table s rows
+pub record RangeReady (s : List ℕ) (n : ℕ) (c : Scene) (start : Items) (a b : ℕ) : Type 0 where
   pub object : IsObject s n
   pub scene : IsScene (nodes_of s) c
   pub items : Along (nodes_of s) (drop (a - 1) (frame_items (nodes_of s))) start

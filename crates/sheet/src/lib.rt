@@ -1,14 +1,14 @@
 // The sampling sheet: how often each grey level was drawn over frames a to b of an accepted object.
 #![tactic(auto)]
 
-ghost use Rattle.std.specs.Prelude.{◌≡◌, true, cond, ℕ, ◌+◌, ◌-◌, ◌*◌, ◌≤◌, ◌<◌, length, get_or, drop};
+ghost use Rattle.std.specs.Prelude.{◌≡◌, true, cond, ℕ, ◌+◌, ◌-◌, ◌*◌, ◌≤◌, ◌<◌, length, get_or, drop, Err};
 ghost use Rattle.dataset.specs.Reading.{reading_of};
 ghost use Rattle.basics.specs.Fields.{Answers};
 ghost use Rattle.dataset.specs.Answer.{buffer_of};
+ghost use Rattle.value.specs.Internal.{Below};
 ghost use Rattle.value.specs.Number.{us_values, number_or0};
 ghost use Rattle.shift.specs.Internal.{ShortMoves};
 ghost use Rattle.node.specs.Nodes.{nodes_of};
-ghost use Rattle.node.specs.Internal.{Table};
 ghost use Rattle.element.specs.Internal.{Along};
 ghost use Rattle.element.specs.Elements.{value_at};
 ghost use Rattle.element.specs.Frames.{frames_of, frame_items};
@@ -20,7 +20,6 @@ ghost use Rattle.pixel.specs.Internal.{masked_shade, Masks};
 ghost use Rattle.lines.specs.Internal.{shades_of, LinesReady, WayReady, way_shade};
 ghost use Rattle.basics.specs.Lists.{up_to};
 ghost use Rattle.ranges.specs.Internal.{Known};
-ghost use Rattle.steps.specs.Internal.{ApplyingBelow};
 ghost use Rattle.display.specs.Internal.{is_masked, shade_by, MasksReady, ToldBy, IsObject, IsScene, IsPixels, IsItem, IsPlan, PlanReady};
 ghost use Rattle.display.specs.Show.{image_size, picture_of};
 ghost use Rattle.sheet.specs.Sheet.{levels_of, natives_of, counts_of, frames_sheet, no_sheet, numbers_in};
@@ -28,31 +27,25 @@ ghost use Rattle.sheet.specs.Answer.{accepted_answer, with_sheet, sheet_of, samp
 ghost use Rattle.sheet.specs.Sampling.{total};
 ghost use Rattle.sheet.specs.Internal.{tallied, Room, Few, First, Last, IsAhead, RangeReady, LineRooms, IsHeld, IsNothing};
 ghost use Rattle.sheet.specs.Internal.{first_in, last_in};
-ghost use Rattle.basics.specs.Limits.{most_masks};
 
-use basics::{MOST_MASKS, wide};
-use conformance::JudgeAnswer;
+use conformance::NotAccepted;
 use display::{Masking, Plan, Scene};
 use element::Items;
 use lines::{Shades, Way};
+use node::DataSet;
 use pixel::Geometry;
+use ranges::ToldItem;
 use shift::Moves;
-use steps::{Applying, Told};
-use value::{Function, Num, Signed};
+use steps::Told;
 use window::Window;
 
 // How many numbers a sheet has.
 pub const NUMBERS: usize = 260;
 
-// The answer of `sheet`: done, with the number of rows; code 9, with the number of rows, rule and frame; code and offset of a
-// refusal; codes 7, 8, 19 and 10.
+// Why there is no sheet: codes 1 to 9 of judging; code 19; code 10.
 #[derive(Clone, Copy)]
-pub enum SheetAnswer {
-    Done(usize),
-    Broken(usize, usize, usize),
-    Refused(usize, usize),
-    TooLarge,
-    NoRoom,
+pub enum SheetError {
+    Refused(NotAccepted),
     WrongOrder,
     NoFrame,
 }
@@ -74,10 +67,10 @@ enum Span {
     From(usize, usize),
 }
 
-// An answer and the sheet that comes with it.
+// An answer, with the number of rows, and the sheet that comes with it.
 #[derive(Clone, Copy)]
 pub struct Sampled {
-    pub answer: SheetAnswer,
+    pub answer: Result<usize, SheetError>,
     pub sheet: Numbers,
 }
 
@@ -89,9 +82,8 @@ fn tally(counts: [u64; 256], line: &[u8]) -> [u64; 256]
     ensures { result ≡ tallied line.now counts }
 {
     let mut sofar = counts;
-    for i in 0..line.len() {
-        let y = wide(line[i]);
-        sofar[y] += 1;
+    for &y in line {
+        sofar[usize::from(y)] += 1;
     }
     sofar
 }
@@ -116,10 +108,9 @@ fn count_lines(
         ≡ tallied (up_to (way_shade way (shades_of shades g.stored) g pixels.now frame (us_values masks.now))
         (samples_of g)) counts }
 {
-    let height = g.rows;
     let columns = g.columns;
     let mut sofar = counts;
-    for row in 0..height {
+    for row in 0..g.rows {
         lines::draw_line(
             way, pixels, g, frame, masks, row, shades, table, upper, lower, line,
         );
@@ -158,111 +149,50 @@ fn count_masked(
 // ---- What is worked out ahead of the frames
 
 // What the mask item that applies says, as recorded.
-fn told_here(bytes: &[u8], rows: &[u32], applies: Applying, keys: &[u32], answers: &[u32]) -> Told
-    requires { Table bytes.now rows.now
-        × (ApplyingBelow (length (nodes_of bytes.now)) applies
-        × ((most_masks ≤ length keys.now)
-        × ((most_masks ≤ length answers.now) × Known (nodes_of bytes.now) keys.now answers.now))) }
-    ensures { ToldBy (nodes_of bytes.now) applies result }
+fn told_here(set: &DataSet, applies: Option<usize>, known: &[Option<ToldItem>]) -> Told
+    requires { Below (length (nodes_of set.now)) applies × Known (nodes_of set.now) known.now }
+    ensures { ToldBy (nodes_of set.now) applies result }
 {
-    let Applying::Item(j) = applies else {
-        return steps::nothing_told();
-    };
-    ranges::told_of(bytes, rows, j, keys, answers)
+    match applies {
+        Some(j) => ranges::told_of(set, j, known),
+        None => steps::nothing_told(),
+    }
 }
 
 // The plan of a frame, from what was worked out for all frames at once.
 fn plan_at(
-    bytes: &[u8],
-    rows: &[u32],
+    set: &DataSet,
     c: Scene,
     frame: usize,
     n: usize,
-    item: Num,
+    item: Option<usize>,
     which: &[u32],
-    keys: &[u32],
-    answers: &[u32],
+    known: &[Option<ToldItem>],
 ) -> Plan
-    requires { Table bytes.now rows.now
-        × (IsObject bytes.now n
-        × (IsScene (nodes_of bytes.now) c
-        × (IsItem (nodes_of bytes.now) frame item
-        × ((1 ≤ frame) × ((frame ≤ n) × IsAhead (nodes_of bytes.now) n which.now keys.now answers.now))))) }
-    ensures { IsPlan (nodes_of bytes.now) frame c.g.stored result }
+    requires { IsObject set.now n
+        × (IsScene (nodes_of set.now) c
+        × (IsItem (nodes_of set.now) frame item
+        × ((1 ≤ frame) × ((frame ≤ n) × IsAhead (nodes_of set.now) n which.now known.now)))) }
+    ensures { IsPlan (nodes_of set.now) frame c.g.stored result }
 {
     let applies = ranges::applying_at(which, frame);
-    let told = told_here(bytes, rows, applies, keys, answers);
-    display::plan_of(bytes, rows, c, frame, n, item, applies, told)
+    let told = told_here(set, applies, known);
+    display::plan_of(set, c, frame, n, item, applies, told)
 }
 
 // The item of a frame, at a cursor that moves along the items with the frames.
-fn item_here(bytes: &[u8], rows: &[u32], items: Items, frame: usize) -> Num
-    requires { Table bytes.now rows.now
-        × (Along (nodes_of bytes.now) (drop (frame - 1) (frame_items (nodes_of bytes.now))) items × (1 ≤ frame)) }
-    ensures { IsItem (nodes_of bytes.now) frame result }
+fn item_here(set: &DataSet, items: Items, frame: usize) -> Option<usize>
+    requires { Along (nodes_of set.now) (drop (frame - 1) (frame_items (nodes_of set.now))) items × (1 ≤ frame) }
+    ensures { IsItem (nodes_of set.now) frame result }
 {
-    let at = items.at;
-    let end = items.end;
-    if at < end { Num::Is(at) } else { Num::None }
+    if items.at < items.end {
+        Some(items.at)
+    } else {
+        None
+    }
 }
 
 // ---- The table of levels
-
-fn same_signed(a: Signed, b: Signed) -> bool
-    ensures { result ≡ true → a ≡ b }
-{
-    match a {
-        Signed::Plus(m) => match b {
-            Signed::Plus(n) => m == n,
-            Signed::Minus(_) => false,
-            Signed::None => false,
-        },
-        Signed::Minus(m) => match b {
-            Signed::Plus(_) => false,
-            Signed::Minus(n) => m == n,
-            Signed::None => false,
-        },
-        Signed::None => false,
-    }
-}
-
-fn same_function(a: Function, b: Function) -> bool
-    ensures { result ≡ true → a ≡ b }
-{
-    match a {
-        Function::Linear => match b {
-            Function::Linear => true,
-            Function::Exact => false,
-            Function::Other => false,
-        },
-        Function::Exact => match b {
-            Function::Linear => false,
-            Function::Exact => true,
-            Function::Other => false,
-        },
-        Function::Other => false,
-    }
-}
-
-fn same_window(a: Window, b: Window) -> bool
-    ensures { result ≡ true → a ≡ b }
-{
-    let center = a.center;
-    let other = b.center;
-    let width = a.width;
-    let otherwidth = b.width;
-    let function = a.function;
-    let otherfunction = b.function;
-    if same_signed(center, other) {
-        if same_signed(width, otherwidth) {
-            same_function(function, otherfunction)
-        } else {
-            false
-        }
-    } else {
-        false
-    }
-}
 
 // The shades of the previous frame, and how many cells were computed from its window so far.
 #[derive(Clone, Copy)]
@@ -276,25 +206,17 @@ fn shades_by(window: Window, stored: usize, inverse: bool, spent: usize, table: 
     requires { Drawable window × ((1 ≤ stored) × ((stored ≤ 16) × (length table.old ≡ shade_places))) }
     ensures { (result.shades.window ≡ window) × IsHeld stored inverse result table.new }
 {
-    if window::power(stored + 1) <= spent {
+    let filled = window::power(stored + 1) <= spent;
+    if filled {
         lines::fill(window, stored, inverse, table);
-        Held {
-            shades: Shades {
-                window,
-                inverse,
-                filled: true,
-            },
-            spent: 0,
-        }
-    } else {
-        Held {
-            shades: Shades {
-                window,
-                inverse,
-                filled: false,
-            },
-            spent,
-        }
+    }
+    Held {
+        shades: Shades {
+            window,
+            inverse,
+            filled,
+        },
+        spent: if filled { 0 } else { spent },
     }
 }
 
@@ -312,26 +234,28 @@ fn shades_for(
         × ((length table.old ≡ shade_places) × ((cells ≤ 4294836225) × IsHeld stored inverse held table.old)))) }
     ensures { (result.shades.window ≡ window) × IsHeld stored inverse result table.new }
 {
-    let last = held.shades;
-    let spent = held.spent;
-    let old = last.window;
-    if same_window(window, old) {
-        if last.filled {
-            held
-        } else {
-            shades_by(window, stored, inverse, spent + cells, table)
-        }
-    } else {
-        shades_by(window, stored, inverse, cells, table)
+    if window != held.shades.window {
+        return shades_by(window, stored, inverse, cells, table);
     }
+    if held.shades.filled {
+        return held;
+    }
+    shades_by(window, stored, inverse, held.spent + cells, table)
 }
 
 // ---- Frames
 
+// The pixel bytes. `value_part` and not `DataSet::value`, since the theorem FrameBytes speaks of the part that it hands out.
+fn pixels_of<'a>(set: &DataSet<'a>, p: usize) -> &'a [u8]
+    requires { IsPixels (nodes_of set.now) p }
+    ensures { result.now ≡ value_at (nodes_of set.now) p }
+{
+    frame::value_part(set.bytes(), set.rows(), p)
+}
+
 // The counts with the levels of a frame, whatever masks it.
 fn count_frame(
-    bytes: &[u8],
-    rows: &[u32],
+    set: &DataSet,
     c: Scene,
     frame: usize,
     masking: Masking,
@@ -342,16 +266,15 @@ fn count_frame(
     line: &mut [u8],
     counts: [u64; 256],
 ) -> [u64; 256]
-    requires { Table bytes.now rows.now
-        × (IsPixels (nodes_of bytes.now) c.p
-        × (LinesReady (value_at (nodes_of bytes.now) c.p) c.g frame shades table.now upper.old lower.old line.old
-        × (MasksReady (nodes_of bytes.now) (value_at (nodes_of bytes.now) c.p) c.g masking × Room counts (samples_of c.g)))) }
+    requires { IsPixels (nodes_of set.now) c.p
+        × (LinesReady (value_at (nodes_of set.now) c.p) c.g frame shades table.now upper.old lower.old line.old
+        × (MasksReady (nodes_of set.now) (value_at (nodes_of set.now) c.p) c.g masking × Room counts (samples_of c.g))) }
     ensures { result
-        ≡ tallied (up_to (shade_by (nodes_of bytes.now) (shades_of shades c.g.stored) c.g
-        (value_at (nodes_of bytes.now) c.p) frame masking) (samples_of c.g)) counts }
+        ≡ tallied (up_to (shade_by (nodes_of set.now) (shades_of shades c.g.stored) c.g
+        (value_at (nodes_of set.now) c.p) frame masking) (samples_of c.g)) counts }
 {
     let g = c.g;
-    let pixels = frame::value_part(bytes, rows, c.p);
+    let pixels = pixels_of(set, c.p);
     match masking {
         Masking::Native => count_lines(
             Way::Native,
@@ -367,18 +290,17 @@ fn count_frame(
             counts,
         ),
         Masking::Average(k, m) => {
-            let masks = node::value(bytes, rows, k);
+            let masks = set.value(k);
             count_masked(
                 pixels, g, frame, masks, m, shades, table, upper, lower, line, counts,
             )
         }
         Masking::One(t, m) => {
-            let one = [(t % 256) as u8, (t / 256 % 256) as u8];
+            let one = (t as u16).to_le_bytes();
             count_masked(
                 pixels, g, frame, &one, m, shades, table, upper, lower, line, counts,
             )
         }
-        Masking::Lacks => counts,
     }
 }
 
@@ -388,9 +310,7 @@ fn native_number(masking: Masking) -> usize
 {
     match masking {
         Masking::Native => 1,
-        Masking::Average(_, _) => 0,
-        Masking::One(_, _) => 0,
-        Masking::Lacks => 1,
+        Masking::Average(..) | Masking::One(..) => 0,
     }
 }
 
@@ -404,8 +324,7 @@ struct Counted {
 
 // Counts a frame of an accepted object by its plan.
 fn count_picture(
-    bytes: &[u8],
-    rows: &[u32],
+    set: &DataSet,
     c: Scene,
     frame: usize,
     n: usize,
@@ -416,32 +335,38 @@ fn count_picture(
     lower: &mut [u32],
     line: &mut [u8],
 ) -> Counted
-    requires { PlanReady bytes.now rows.now n c frame own
+    requires { PlanReady set.now n c frame own
         × (LineRooms table.old upper.old lower.old line.old
         × (IsHeld c.g.stored c.inverse sofar.held table.old
-        × ((sofar.natives < 65536) × Room sofar.counts (image_size (nodes_of bytes.now))))) }
-    ensures { (result.counts ≡ tallied (picture_of (nodes_of bytes.now) frame).samples sofar.counts)
-        × ((result.natives ≡ cond (picture_of (nodes_of bytes.now) frame).masked 0 1 + sofar.natives)
+        × ((sofar.natives < 65536) × Room sofar.counts (image_size (nodes_of set.now))))) }
+    ensures { (result.counts ≡ tallied (picture_of (nodes_of set.now) frame).samples sofar.counts)
+        × ((result.natives ≡ cond (picture_of (nodes_of set.now) frame).masked 0 1 + sofar.natives)
         × IsHeld c.g.stored c.inverse result.held table.new) }
 {
-    let g = c.g;
-    let stored = g.stored;
-    let inverse = c.inverse;
-    let cells = g.rows * g.columns;
-    let old = sofar.counts;
-    let some = sofar.natives;
-    let last = sofar.held;
-    let window = own.window;
-    let masking = own.masking;
-    let held = shades_for(window, stored, inverse, cells, last, table);
-    let shades = held.shades;
-    let counts = count_frame(
-        bytes, rows, c, frame, masking, shades, table, upper, lower, line, old,
+    let held = shades_for(
+        own.window,
+        c.g.stored,
+        c.inverse,
+        c.g.rows * c.g.columns,
+        sofar.held,
+        table,
     );
-    let natives = native_number(masking) + some;
+    let old = sofar.counts;
+    let counts = count_frame(
+        set,
+        c,
+        frame,
+        own.masking,
+        held.shades,
+        table,
+        upper,
+        lower,
+        line,
+        old,
+    );
     Counted {
         counts,
-        natives,
+        natives: native_number(own.masking) + sofar.natives,
         held,
     }
 }
@@ -467,47 +392,40 @@ fn nothing(stored: usize, inverse: bool) -> Counted
 
 // Counts frames a to b: each item is stepped to once, and every frame uses the same buffers.
 fn count_frames(
-    bytes: &[u8],
-    rows: &[u32],
+    set: &DataSet,
     c: Scene,
     n: usize,
     start: Items,
     a: usize,
     b: usize,
     which: &[u32],
-    keys: &[u32],
-    answers: &[u32],
+    known: &[Option<ToldItem>],
     table: &mut [u8],
     upper: &mut [u32],
     lower: &mut [u32],
     line: &mut [u8],
 ) -> Counted
-    requires { RangeReady bytes.now rows.now n c start a b
+    requires { RangeReady set.now n c start a b
         × (LineRooms table.old upper.old lower.old line.old
-        × IsAhead (nodes_of bytes.now) n which.now keys.now answers.now) }
-    ensures { (result.counts ≡ counts_of (levels_of (nodes_of bytes.now) a (b - a + 1)))
-        × (result.natives ≡ natives_of (nodes_of bytes.now) a (b - a + 1)) }
+        × IsAhead (nodes_of set.now) n which.now known.now) }
+    ensures { (result.counts ≡ counts_of (levels_of (nodes_of set.now) a (b - a + 1)))
+        × (result.natives ≡ natives_of (nodes_of set.now) a (b - a + 1)) }
 {
     let mut items = start;
-    let g = c.g;
-    let mut sofar = nothing(g.stored, c.inverse);
-    let end = b + 1;
-    for frame in a..end {
-        let item = item_here(bytes, rows, items, frame);
-        let own = plan_at(bytes, rows, c, frame, n, item, which, keys, answers);
-        let next = count_picture(
-            bytes, rows, c, frame, n, own, sofar, table, upper, lower, line,
-        );
+    let mut sofar = nothing(c.g.stored, c.inverse);
+    for frame in a..b + 1 {
+        let item = item_here(set, items, frame);
+        let own = plan_at(set, c, frame, n, item, which, known);
+        let next = count_picture(set, c, frame, n, own, sofar, table, upper, lower, line);
         sofar = next;
-        items = element::advance(bytes, rows, items);
+        items = element::advance(set, items);
     }
     sofar
 }
 
 // The same, working out here what all frames share. `upper` has room for the marks of ranges.
 fn count_all(
-    bytes: &[u8],
-    rows: &[u32],
+    set: &DataSet,
     c: Scene,
     n: usize,
     start: Items,
@@ -518,28 +436,26 @@ fn count_all(
     lower: &mut [u32],
     line: &mut [u8],
 ) -> Counted
-    requires { RangeReady bytes.now rows.now n c start a b × LineRooms table.old upper.old lower.old line.old }
-    ensures { (result.counts ≡ counts_of (levels_of (nodes_of bytes.now) a (b - a + 1)))
-        × (result.natives ≡ natives_of (nodes_of bytes.now) a (b - a + 1)) }
+    requires { RangeReady set.now n c start a b × LineRooms table.old upper.old lower.old line.old }
+    ensures { (result.counts ≡ counts_of (levels_of (nodes_of set.now) a (b - a + 1)))
+        × (result.natives ≡ natives_of (nodes_of set.now) a (b - a + 1)) }
 {
-    let mut which: [u32; 65536] = [0; 65536];
-    let mut keys: [u32; MOST_MASKS] = [0; MOST_MASKS];
-    let mut answers: [u32; MOST_MASKS] = [0; MOST_MASKS];
-    ranges::apply_all(bytes, rows, n, upper, &mut which);
-    ranges::tell_all(bytes, rows, &mut keys, &mut answers);
+    let mut which = [0; 65536];
+    ranges::apply_all(set, n, upper, &mut which);
+    let known = ranges::tell_all(set);
     count_frames(
-        bytes, rows, c, n, start, a, b, &which, &keys, &answers, table, upper, lower, line,
+        set, c, n, start, a, b, &which, &known, table, upper, lower, line,
     )
 }
 
 // The items from frame a's on.
-fn items_from(bytes: &[u8], rows: &[u32], a: usize) -> Items
-    requires { Table bytes.now rows.now × (1 ≤ a) }
-    ensures { Along (nodes_of bytes.now) (drop (a - 1) (frame_items (nodes_of bytes.now))) result }
+fn items_from(set: &DataSet, a: usize) -> Items
+    requires { 1 ≤ a }
+    ensures { Along (nodes_of set.now) (drop (a - 1) (frame_items (nodes_of set.now))) result }
 {
-    let mut items = element::frame_items(bytes, rows);
+    let mut items = element::frame_items(set);
     for frame in 1..a {
-        items = element::advance(bytes, rows, items);
+        items = element::advance(set, items);
     }
     items
 }
@@ -551,9 +467,9 @@ fn weighted(counts: [u64; 256]) -> usize
     requires { Few counts }
     ensures { result ≡ total (λ y. y * get_or counts y 0) 256 }
 {
-    let mut sum: usize = 0;
-    for y in 0..256 {
-        sum += y * (counts[y] as usize);
+    let mut sum = 0;
+    for (y, &count) in counts.iter().enumerate() {
+        sum += y * count as usize;
     }
     sum
 }
@@ -562,45 +478,29 @@ fn weighted(counts: [u64; 256]) -> usize
 fn first_drawn(counts: [u64; 256]) -> usize
     ensures { First counts result }
 {
-    let mut y: usize = 0;
-    while y < 255 {
-        if 0 < counts[y] {
-            return y;
-        } else {
-            y += 1;
-        }
-    }
-    y
+    counts.iter().position(|&n| 0 < n).unwrap_or(255)
 }
 
 // The last one.
 fn last_drawn(counts: [u64; 256]) -> usize
     ensures { Last counts result }
 {
-    let mut y: usize = 255;
-    while 0 < y {
-        if 0 < counts[y] {
-            return y;
-        } else {
-            y -= 1;
-        }
-    }
-    y
+    counts.iter().rposition(|&n| 0 < n).unwrap_or(0)
 }
 
 // The sheet of frames a to b of an accepted object of n frames. All buffers are made here, once.
-fn sample_frames(bytes: &[u8], rows: &[u32], n: usize, a: usize, b: usize) -> Numbers
-    requires { Table bytes.now rows.now × (IsObject bytes.now n × ((1 ≤ a) × ((a ≤ b) × (b ≤ n)))) }
-    ensures { result ≡ frames_sheet (nodes_of bytes.now) a b }
+fn sample_frames(set: &DataSet, n: usize, a: usize, b: usize) -> Numbers
+    requires { IsObject set.now n × ((1 ≤ a) × ((a ≤ b) × (b ≤ n))) }
+    ensures { result ≡ frames_sheet (nodes_of set.now) a b }
 {
     let mut table: [u8; window::PLACES] = [0; window::PLACES];
     let mut upper: [u32; pixel::LONGEST] = [0; pixel::LONGEST];
     let mut lower: [u32; pixel::LONGEST] = [0; pixel::LONGEST];
     let mut line: [u8; 65535] = [0; 65535];
-    let c = display::scene_of(bytes, rows, n);
-    let start = items_from(bytes, rows, a);
+    let c = display::scene_of(set, n);
+    let start = items_from(set, a);
     let done = count_all(
-        bytes, rows, c, n, start, a, b, &mut table, &mut upper, &mut lower, &mut line,
+        set, c, n, start, a, b, &mut table, &mut upper, &mut lower, &mut line,
     );
     let counts = done.counts;
     Numbers {
@@ -614,12 +514,12 @@ fn sample_frames(bytes: &[u8], rows: &[u32], n: usize, a: usize, b: usize) -> Nu
 
 // ---- The call
 
-// A sheet of zeros with an answer that refuses.
-fn refused(answer: SheetAnswer) -> Sampled
-    ensures { result ≡ record { answer = answer; sheet = no_sheet } }
+// A sheet of zeros with a refusal.
+fn refused(error: SheetError) -> Sampled
+    ensures { result ≡ record { answer = Err error; sheet = no_sheet } }
 {
     Sampled {
-        answer,
+        answer: Err(error),
         sheet: Numbers {
             counts: [0; 256],
             natives: 0,
@@ -631,75 +531,60 @@ fn refused(answer: SheetAnswer) -> Sampled
 }
 
 // The sheet of frames of an accepted object whose number of rows is given: codes 19 and 10, or the sheet.
-fn sheet_table(bytes: &[u8], rows: &[u32], first: usize, last: usize, count: usize) -> Sampled
-    requires { Table bytes.now rows.now
-        × (((i : ℕ) → get_or bytes.now i 0 < 256) × (finding_of (nodes_of bytes.now) ≡ finding.Accepted)) }
+#[tactic(auto, unfolding(crate::specs::Answer::accepted_answer))]
+fn sheet_table(set: &DataSet, first: usize, last: usize, count: usize) -> Sampled
+    requires { ((i : ℕ) → get_or set.now i 0 < 256) × (finding_of (nodes_of set.now) ≡ finding.Accepted) }
     ensures { result
-        ≡ with_sheet (nodes_of bytes.now) first last (accepted_answer (nodes_of bytes.now) first last count) }
+        ≡ with_sheet (nodes_of set.now) first last (accepted_answer (nodes_of set.now) first last count) }
 {
     if last < first {
-        return refused(SheetAnswer::WrongOrder);
+        return refused(SheetError::WrongOrder);
     }
-    let Num::Is(n) = element::frame_count(bytes, rows) else {
-        return refused(SheetAnswer::NoFrame);
+    let Some(n) = element::frame_count(set) else {
+        return refused(SheetError::NoFrame);
     };
-    if first < 1 {
-        return refused(SheetAnswer::NoFrame);
+    if first < 1 || n < last {
+        return refused(SheetError::NoFrame);
     }
-    if n < last {
-        return refused(SheetAnswer::NoFrame);
-    }
-    let sheet = sample_frames(bytes, rows, n, first, last);
     Sampled {
-        answer: SheetAnswer::Done(count),
-        sheet,
+        answer: Ok(count),
+        sheet: sample_frames(set, n, first, last),
     }
 }
 
 // The number of frames, which an accepted object has.
-fn last_frame(bytes: &[u8], rows: &[u32]) -> usize
-    requires { Table bytes.now rows.now }
-    ensures { result ≡ number_or0 (frames_of (nodes_of bytes.now)) }
+fn last_frame(set: &DataSet) -> usize
+    ensures { result ≡ number_or0 (frames_of (nodes_of set.now)) }
 {
-    match element::frame_count(bytes, rows) {
-        Num::Is(n) => n,
-        Num::None => 0,
-    }
+    element::frame_count(set).unwrap_or(0)
 }
 
 // The same, for the frames of a span.
-fn sheet_span(bytes: &[u8], rows: &[u32], span: Span, count: usize) -> Sampled
-    requires { Table bytes.now rows.now
-        × (((i : ℕ) → get_or bytes.now i 0 < 256) × (finding_of (nodes_of bytes.now) ≡ finding.Accepted)) }
+fn sheet_span(set: &DataSet, span: Span, count: usize) -> Sampled
+    requires { ((i : ℕ) → get_or set.now i 0 < 256) × (finding_of (nodes_of set.now) ≡ finding.Accepted) }
     ensures { result
-        ≡ with_sheet (nodes_of bytes.now) (first_in span) (last_in (nodes_of bytes.now) span)
-        (accepted_answer (nodes_of bytes.now) (first_in span) (last_in (nodes_of bytes.now) span) count) }
+        ≡ with_sheet (nodes_of set.now) (first_in span) (last_in (nodes_of set.now) span)
+        (accepted_answer (nodes_of set.now) (first_in span) (last_in (nodes_of set.now) span) count) }
 {
-    match span {
-        Span::All => {
-            let last = last_frame(bytes, rows);
-            sheet_table(bytes, rows, 1, last, count)
-        }
-        Span::From(first, last) => sheet_table(bytes, rows, first, last, count),
-    }
+    let (first, last) = match span {
+        Span::All => (1, last_frame(set)),
+        Span::From(first, last) => (first, last),
+    };
+    sheet_table(set, first, last, count)
 }
 
 // Judges the data set afresh and counts the levels of the frames of a span.
+#[tactic(auto, using(display::proofs::Judged::judging), unfolding(crate::specs::Answer::sheet_of))]
 fn judged_sheet(bytes: &[u8], span: Span, rows: &mut [u32]) -> Sampled
     ensures answers { Answers sampled_fields result
         (sheet_of bytes.now (first_in span) (last_in (nodes_of bytes.now) span) rows.old) }
     ensures rows_after { rows.new ≡ buffer_of (reading_of bytes.now) rows.old }
 {
-    match conformance::judge(bytes, rows) {
-        JudgeAnswer::TooLarge => refused(SheetAnswer::TooLarge),
-        JudgeAnswer::Refused(code, offset) => refused(SheetAnswer::Refused(code, offset)),
-        JudgeAnswer::NoRoom => refused(SheetAnswer::NoRoom),
-        JudgeAnswer::Broken(count, rule, broken) => {
-            refused(SheetAnswer::Broken(count, rule, broken))
-        }
-        JudgeAnswer::Accepted(count) => {
-            let end = dataset::WIDTH * count;
-            sheet_span(bytes, &rows[..end], span, count)
+    match conformance::accept(bytes, rows) {
+        Err(refusal) => refused(SheetError::Refused(refusal)),
+        Ok(count) => {
+            let set = DataSet::new(bytes, &rows[..dataset::WIDTH * count]);
+            sheet_span(&set, span, count)
         }
     }
 }
@@ -725,22 +610,12 @@ pub fn whole(bytes: &[u8], rows: &mut [u32]) -> Sampled
 pub fn number_at(t: Numbers, k: usize) -> u64
     ensures { result ≡ get_or (numbers_in t) k 0 }
 {
-    let counts = t.counts;
-    if k < 256 {
-        counts[k]
-    } else {
-        if k == 256 {
-            t.natives as u64
-        } else {
-            if k == 257 {
-                t.lowest as u64
-            } else {
-                if k == 258 {
-                    t.highest as u64
-                } else {
-                    if k == 259 { t.sum as u64 } else { 0 }
-                }
-            }
-        }
+    match k {
+        0..=255 => t.counts[k],
+        256 => t.natives as u64,
+        257 => t.lowest as u64,
+        258 => t.highest as u64,
+        259 => t.sum as u64,
+        _ => 0,
     }
 }

@@ -3,21 +3,21 @@
 // than 65,536 bytes are refused with code 7; code 8 never occurs.
 #![tactic(auto)]
 
-ghost use Rattle.std.specs.Prelude.{◌≡◌, ◌≤◌, length};
+ghost use Rattle.std.specs.Prelude.{◌≡◌};
 ghost use Rattle.sheet.specs.Answer.{fields_of};
 
+use conformance::NotAccepted;
+use dataset::ReadError;
 use room::input;
-use sheet::{Numbers, Sampled, SheetAnswer};
+use sheet::{Numbers, Sampled, SheetError};
 use std::io;
 use std::io::Write;
 
 fn print_line<W: Write>(to: &mut W, n: u64) -> io::Result<()> {
-    write!(to, "{n}\n")
+    writeln!(to, "{n}")
 }
 
-fn print_numbers<W: Write>(to: &mut W, t: Numbers) -> io::Result<()>
-    requires { length t.counts ≡ 256 }
-{
+fn print_numbers<W: Write>(to: &mut W, t: Numbers) -> io::Result<()> {
     for k in 0..sheet::NUMBERS {
         print_line(to, sheet::number_at(t, k))?;
     }
@@ -25,25 +25,19 @@ fn print_numbers<W: Write>(to: &mut W, t: Numbers) -> io::Result<()>
 }
 
 fn print_sheet<W: Write>(to: &mut W, sampled: Sampled) -> io::Result<()>
-    requires { ((fields_of sampled.answer).code ≡ 8 → ⊥) × (length sampled.sheet.counts ≡ 256) }
+    requires { (fields_of sampled.answer).code ≡ 8 → ⊥ }
 {
-    let answer = sampled.answer;
-    let numbers = sampled.sheet;
-    match answer {
-        SheetAnswer::Done(_) => print_numbers(to, numbers),
-        SheetAnswer::Broken(_, _, _) => print_line(to, 9),
-        SheetAnswer::Refused(code, _) => print_line(to, code as u64),
-        SheetAnswer::TooLarge => print_line(to, 7),
-        SheetAnswer::NoRoom => unreachable!(),
-        SheetAnswer::WrongOrder => print_line(to, 19),
-        SheetAnswer::NoFrame => print_line(to, 10),
+    match sampled.answer {
+        Ok(_) => print_numbers(to, sampled.sheet),
+        Err(SheetError::Refused(NotAccepted::Broken(_, _, _))) => print_line(to, 9),
+        Err(SheetError::Refused(NotAccepted::Unread(ReadError::Refused(refusal)))) => {
+            print_line(to, refusal.fault.code() as u64)
+        }
+        Err(SheetError::Refused(NotAccepted::Unread(ReadError::TooLarge))) => print_line(to, 7),
+        Err(SheetError::Refused(NotAccepted::Unread(ReadError::NoRoom))) => unreachable!(),
+        Err(SheetError::WrongOrder) => print_line(to, 19),
+        Err(SheetError::NoFrame) => print_line(to, 10),
     }
-}
-
-fn sample<W: Write>(to: &mut W, bytes: &[u8]) -> io::Result<()>
-    requires { length bytes.now ≤ 65536 }
-{
-    print_sheet(to, sheet_small::sheet_small(bytes))
 }
 
 fn main(rt: HostRuntime) -> io::Result<()> {
@@ -53,5 +47,5 @@ fn main(rt: HostRuntime) -> io::Result<()> {
     if room::MOST < n {
         return print_line(&mut to, 7);
     }
-    sample(&mut to, &bytes[..n])
+    print_sheet(&mut to, sheet_small::sheet_small(&bytes[..n]))
 }

@@ -1,11 +1,12 @@
 -- Whole shifts and quarters agree: what was a shift of whole pixels is a shift still, by the same distance in quarters.
+use Rattle.std.specs.Prelude.{Option, Some, None}
 use Rattle.std.proofs.Common.{◌≡◌, ℕ, zero, suc, ◌*◌, ◌/◌, ◌%◌, ◌<◌, Bool, true, false, cond, ◌&&◌, eqb, leb, List, length, sym, refl, ap, ◌∙◌, true≢false, mul_comm, div-add-mod', arith, eqb-true, le-leb, leb-true}
 use native.Mathlib.Nat.{mul-mod_left, mul-div_cancel_left}
 use lib.Ieee.{Float, nan, inf, fin, up, down}
 use lib.Ieee.Fits.{down_pos}
 use Rattle.basics.proofs.Tests.{and_both, false-is-true}
 use Rattle.value.specs.declared.Signed.{Signed}
-use Rattle.value.specs.declared.Signed.TheVariants.{Plus, Minus, None}
+use Rattle.value.specs.declared.Signed.TheVariants.{Plus, Minus}
 use Rattle.value.specs.Number.{is_number}
 use Rattle.shift.specs.declared.Shift.{Shift}
 use Rattle.shift.specs.declared.Shift.TheVariants as shift
@@ -37,7 +38,7 @@ signed false q = refl
 signed true zero = refl
 signed true (suc q) = go (4 * suc q) (omega arith)
   where
-    go : (k : ℕ) → 0 < k → signed_size true k ≡ Minus k
+    go : (k : ℕ) → 0 < k → signed_size true k ≡ Some (Minus k)
     go zero h = absurd (omega arith)
     go (suc k) h = refl
 
@@ -56,9 +57,9 @@ whole-quarters (fin s m e) h = go (eqb (m * up e % down e) 0) refl h
         rw (left-none (m * up e) (down e) (down_pos e) z, quotient (m * up e) (down e) (down_pos e) z) (signed s (m * up e / down e))
     go false p h = absurd (false-is-true h)
 
-short-number : (w : Signed) → is_short_whole w ≡ true → is_number w ≡ true
-short-number (Plus n) h = refl
-short-number (Minus n) h = refl
+short-number : (w : Option Signed) → is_short_whole w ≡ true → is_number w ≡ true
+short-number (Some (Plus n)) h = refl
+short-number (Some (Minus n)) h = refl
 short-number None h = h
 
 -- In quarters the limit is the same.
@@ -71,12 +72,12 @@ same-limit n = go (leb n largest_shift) (leb (shift_unit * n) largest_move) refl
     go true false p q = absurd (true≢false (sym (le-leb (shift_unit * n) largest_move (omega (arith, leb-true n largest_shift p))) ∙ q))
     go false true p q = absurd (true≢false (sym (le-leb n largest_shift (omega (arith, leb-true (shift_unit * n) largest_move q))) ∙ p))
 
-short-same : (w : Signed) → is_short (in_quarters w) ≡ is_short_whole w
-short-same (Plus n) = same-limit n
-short-same (Minus n) = same-limit n
+short-same : (w : Option Signed) → is_short (in_quarters w) ≡ is_short_whole w
+short-same (Some (Plus n)) = same-limit n
+short-same (Some (Minus n)) = same-limit n
 short-same None = refl
 
-short-quarters : (w : Signed) → is_short_whole w ≡ true → is_short (in_quarters w) ≡ true
+short-quarters : (w : Option Signed) → is_short_whole w ≡ true → is_short (in_quarters w) ≡ true
 short-quarters w h = short-same w ∙ h
 
 -- ---- A shift
@@ -139,7 +140,7 @@ pub whole_numbers : (m : Moves) → is_number m.vertical ≡ true → is_number 
     → is_number (in_quarters m.vertical) && is_number (in_quarters m.horizontal) ≡ true
 whole_numbers m v h = rw (one m.vertical v, one m.horizontal h)
   where
-    one : (w : Signed) → is_number w ≡ true → is_number (in_quarters w) ≡ true
-    one (Plus n) e = e
-    one (Minus n) e = e
+    one : (w : Option Signed) → is_number w ≡ true → is_number (in_quarters w) ≡ true
+    one (Some (Plus n)) e = e
+    one (Some (Minus n)) e = e
     one None e = e

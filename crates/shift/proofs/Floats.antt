@@ -1,6 +1,7 @@
 -- Why the test of a float is right: four times a float up to the largest shift is exact, and the product, cut to a whole number and
 -- turned into a float again, is the same exactly where nothing was cut off. A finite float is a fraction n / d, so each
 -- law is one on fractions first.
+use Rattle.std.specs.Prelude.{Option, Some, None}
 use Rattle.std.proofs.Common.{◌≡◌, ℕ, zero, suc, ◌+◌, ◌-◌, ◌*◌, ◌/◌, ◌%◌, ◌^◌, ◌<◌, ◌≤◌, Bool, true, false, cond, not, ◌&&◌, ◌||◌, T, eqb, ltb, leb, ℤ, pos, negsuc, sym, refl, ap, ◌∙◌, subst, true≢false, lt_trans, lt_of_lt_of_le, lt_irrefl, mul-le-mul_right, mul_assoc, mul_comm, div-add-mod', zero-mul, mul-one, mul_right_comm, le_of_mul-le-mul_right, arith, lit<, lt→ltb, pow_pos, pow-add, shl_lt, ltb-false, ltb-true, le-ltb, lt-ltb, eq-eqb, ne_eqb, eqb-true, le-leb, leb-false, leb-true}
 use mathlib.Core.Bool.{beq, and-true}
 use native.Mathlib.Nat.{div-le_of_le-mul, zero-div, eq_of_mul-eq-mul_right}
@@ -12,8 +13,6 @@ use lib.Ieee.Fits.{down_pos}
 use lib.Ieee.Exact.{HasValue, round_exact}
 use lib.Ieee.Back.{round_whole}
 use Rattle.basics.proofs.Tests.{false-is-true}
-use Rattle.value.specs.declared.Num.{Num}
-use Rattle.value.specs.declared.Num.TheVariants as num
 use Rattle.value.specs.declared.Signed.{Signed}
 use Rattle.value.specs.declared.Signed.TheVariants as signed
 use Rattle.value.specs.Number.{with_sign}
@@ -52,13 +51,13 @@ module _ (n d : ℕ) where
   quotient-some : 0 < n → n % d ≡ 0 → n / d ≡ 0 → ⊥
   quotient-some h p z = let k : 0 ≡ n = sym (zero-mul d) ∙ ap (λ (x : ℕ). x * d) (sym z) ∙ exact p in omega arith
 
-  fraction-high : (l : ℕ) → l * d < n → whole_up_to l n d ≡ num.None
+  fraction-high : (l : ℕ) → l * d < n → whole_up_to l n d ≡ None
   fraction-high l h = go (leb (n / d) l) (eqb (n % d) 0) refl refl
     where
       clash : n % d ≡ 0 → n / d * d ≤ l * d → ⊥
       clash p q = omega (arith, exact p)
 
-      go : (p q : Bool) → leb (n / d) l ≡ p → eqb (n % d) 0 ≡ q → cond (p && q) (num.Is (n / d)) num.None ≡ num.None
+      go : (p q : Bool) → leb (n / d) l ≡ p → eqb (n % d) 0 ≡ q → cond (p && q) (Some (n / d)) None ≡ None
       go true true a b = absurd (clash (eqb-true _ _ b) (mul-le-mul_right d (leb-true _ _ a)))
       go true false a b = refl
       go false q a b = refl
@@ -123,7 +122,7 @@ low (fin true m e) h k =
     let a : m * up e * 1 + 0 * down e ≤ 0 = ltb-false _ _ h in
     (omega arith, λ _. omega arith)
 
-pub high : (y : Float) → lt y (of_bits binary32 0) ≡ false → le y largest_float ≡ false → short_size y ≡ num.None
+pub high : (y : Float) → lt y (of_bits binary32 0) ≡ false → le y largest_float ≡ false → short_size y ≡ None
 unfolding lt le eq of_bits of_int short_size
 high nan h k = refl
 high (inf s) h k = refl
@@ -183,13 +182,13 @@ back_is (fin false a d) s m e v h =
     signs true w = rw (eq-eqb _ 0 (none (w refl))) (and-true (eqb (m * up e % down e) 0))
 
 -- The whole number that a float is, up to the largest move.
-abbrev pub whole_up : Float → Num
-whole_up nan = num.None
-whole_up (inf s) = num.None
+abbrev pub whole_up : Float → Option ℕ
+whole_up nan = None
+whole_up (inf s) = None
 whole_up (fin s m e) = whole_up_to largest_move (m * up e) (down e)
 
 whole_is : (z : Float) → Low largest_move z
-    → whole_up z ≡ cond (eq (of_int binary32 (pos (to_unsigned 64 z))) z) (num.Is (to_unsigned 64 z)) num.None
+    → whole_up z ≡ cond (eq (of_int binary32 (pos (to_unsigned 64 z))) z) (Some (to_unsigned 64 z)) None
 unfolding of_int
 whole_is nan h = absurd h
 whole_is (inf s) h = absurd h
@@ -311,7 +310,7 @@ four-times (fin s m e) f h = four-by (round binary32 (not (beq s false)) (m * up
 
 -- The same of the code's numbers: z is four times y, n is what is left of it, b is n as a float, t the test.
 pub size-by : (y : Float) → fits binary32 y ≡ true → Low largest_shift y → (n : ℕ) (b : Float) (t : Bool) → n ≡ to_unsigned 64 (four_times y)
-    → b ≡ of_int binary32 (pos n) → eq b (four_times y) ≡ t → cond t (num.Is n) num.None ≡ short_size y
+    → b ≡ of_int binary32 (pos n) → eq b (four_times y) ≡ t → cond t (Some n) None ≡ short_size y
 size-by y f h n b t e d g =
     let k = four-times y f h in
     sym (sym k.1 ∙ whole_is (four_times y) k.0 ∙ rw (← e, ← d, g))
@@ -331,13 +330,13 @@ neg_low (fin false m e) h =
     absurd (omega arith)
 
 -- A short number w of quarters is a short size with the sign that `sign` puts on.
-short-by : (sign : Num → Signed) (q : ℕ) → is_short (sign (num.Is q)) ≡ leb q largest_move → sign num.None ≡ signed.None
-    → (p : Bool) (w : Signed) → (p ≡ true → w ≡ sign (num.Is q))
-    → cond (is_short (cond p w signed.None)) (cond p w signed.None) signed.None ≡ sign (cond (leb q largest_move && p) (num.Is q) num.None)
+short-by : (sign : Option ℕ → Option Signed) (q : ℕ) → is_short (sign (Some q)) ≡ leb q largest_move → sign None ≡ None
+    → (p : Bool) (w : Option Signed) → (p ≡ true → w ≡ sign (Some q))
+    → cond (is_short (cond p w None)) (cond p w None) None ≡ sign (cond (leb q largest_move && p) (Some q) None)
 short-by sign q short lacks p w is = go p (leb q largest_move) refl is
   where
-    go : (p t : Bool) → leb q largest_move ≡ t → (p ≡ true → w ≡ sign (num.Is q))
-        → cond (is_short (cond p w signed.None)) (cond p w signed.None) signed.None ≡ sign (cond (t && p) (num.Is q) num.None)
+    go : (p t : Bool) → leb q largest_move ≡ t → (p ≡ true → w ≡ sign (Some q))
+        → cond (is_short (cond p w None)) (cond p w None) None ≡ sign (cond (t && p) (Some q) None)
     go true true e is = rw (is refl, short, e)
     go true false e is = rw (is refl, short, e) (sym lacks)
     go false true e is = sym lacks
@@ -348,7 +347,7 @@ unfolding lt of_bits quarters_of short_of short_size
 short-plus nan h = refl
 short-plus (inf s) h = refl
 short-plus (fin false m e) h = short-by (with_sign false) (m * up e * 4 / down e) refl refl (eqb (m * up e * 4 % down e) 0)
-    (signed.Plus (m * up e * 4 / down e)) (λ _. refl)
+    (Some (signed.Plus (m * up e * 4 / down e))) (λ _. refl)
 short-plus (fin true m e) h =
     let a : m * up e * 1 + 0 * down e ≤ 0 = ltb-false _ _ h in
     let z : m * up e * 4 / down e ≡ 0 = quotient-none (m * up e * 4) (down e) (omega arith) in
@@ -367,6 +366,6 @@ short-minus (fin true m e) h =
     short-by (with_sign true) (m * up e * 4 / down e) refl refl (eqb (m * up e * 4 % down e) 0) (signed_size true (m * up e * 4 / down e))
     (λ p. some (m * up e * 4 / down e) (quotient-some (m * up e * 4) (down e) (omega arith) (eqb-true _ _ p)))
   where
-    some : (q : ℕ) → (q ≡ 0 → ⊥) → signed_size true q ≡ signed.Minus q
+    some : (q : ℕ) → (q ≡ 0 → ⊥) → signed_size true q ≡ Some (signed.Minus q)
     some zero f = absurd (f refl)
     some (suc q) f = refl

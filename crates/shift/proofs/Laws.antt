@@ -1,9 +1,10 @@
 -- For callers: what a value in rule 35's form has, so that its shift moves the mask by short quarters.
+use Rattle.std.specs.Prelude.{Option, Some, None}
 use Rattle.std.proofs.Common.{◌≡◌, ℕ, Bool, true, false, cond, ◌&&◌, eqb, List, length, sym, refl, ap, ◌∙◌, eqb-true}
 use lib.Ieee.{Float}
 use Rattle.basics.proofs.Tests.{and_both}
 use Rattle.value.specs.declared.Signed.{Signed}
-use Rattle.value.specs.declared.Signed.TheVariants.{Plus, Minus, None}
+use Rattle.value.specs.declared.Signed.TheVariants.{Plus, Minus}
 use Rattle.value.specs.Number.{is_number}
 use Rattle.shift.specs.declared.Shift.{Shift}
 use Rattle.shift.specs.declared.Shift.TheVariants as shift
@@ -18,13 +19,13 @@ pub number_short : (x : Float) → is_number (short_of x) ≡ is_short (quarters
 unfolding short_of
 number_short x = go (quarters_of x)
   where
-    kept : (t : Bool) (w : Signed) → is_number w ≡ true → is_number (cond t w None) ≡ t
+    kept : (t : Bool) (w : Option Signed) → is_number w ≡ true → is_number (cond t w None) ≡ t
     kept true w h = h
     kept false w h = refl
 
-    go : (w : Signed) → is_number (cond (is_short w) w None) ≡ is_short w
-    go (Plus n) = kept (is_short (Plus n)) (Plus n) refl
-    go (Minus n) = kept (is_short (Minus n)) (Minus n) refl
+    go : (w : Option Signed) → is_number (cond (is_short w) w None) ≡ is_short w
+    go (Some (Plus n)) = kept (is_short (Some (Plus n))) (Some (Plus n)) refl
+    go (Some (Minus n)) = kept (is_short (Some (Minus n))) (Some (Minus n)) refl
     go None = refl
 
 pub short-is : (x : Float) → is_short (quarters_of x) ≡ true → quarters_of x ≡ short_of x

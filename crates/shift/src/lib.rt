@@ -10,9 +10,10 @@ ghost use Rattle.shift.specs.Shift.{float_at, is_shift_of, item_shift, frame_shi
 ghost use Rattle.shift.specs.Internal.{short_size, too_far, ShortMoves, short_of, short_moves_of};
 
 use basics::u32_at;
-use value::{Num, Signed};
+use value::Signed;
 
-// No shift, the mask item's two numbers, or the frame's own two.
+// No shift, the mask item's two numbers, or the frame's own two. An `Option` of a kind and two numbers would be no plainer: each case has
+// its name here, as in the rules that cite it.
 #[derive(Clone, Copy)]
 pub enum Shift {
     None,
@@ -23,8 +24,8 @@ pub enum Shift {
 // How far a shift moves the mask, in quarters.
 #[derive(Clone, Copy)]
 pub struct Moves {
-    pub vertical: Signed,
-    pub horizontal: Signed,
+    pub vertical: Option<Signed>,
+    pub horizontal: Option<Signed>,
 }
 
 // The largest bit pattern of a float without its sign that is not a NaN: infinity.
@@ -56,7 +57,7 @@ fn float_at(v: &[u8], p: usize) -> f32
 // ---- Short quarters: up to the largest shift, to either side
 
 // The quarters of a float that is not negative: they are whole if nothing was cut off.
-fn short_size(y: f32) -> Num
+fn short_size(y: f32) -> Option<usize>
     requires { lt y (from_bits binary32 0) ≡ false }
     ensures value { result ≡ short_size y }
     ensures below { Below too_far result }
@@ -65,49 +66,36 @@ fn short_size(y: f32) -> Num
         let z = y * 4.0;
         let n = std::num::truncating_f32_to_u64(z);
         let back = std::num::nearest_u32_to_f32(n as u32);
-        if back == z {
-            Num::Is(n as usize)
-        } else {
-            Num::None
-        }
+        if back == z { Some(n as usize) } else { None }
     } else {
-        Num::None
+        None
     }
 }
 
-fn short_of(x: f32) -> Signed
+fn short_of(x: f32) -> Option<Signed>
     ensures value { result ≡ short_of x }
     ensures size_below { SizeBelow too_far result }
 {
     if x < 0.0 {
-        match short_size(-x) {
-            Num::Is(n) => Signed::Minus(n),
-            Num::None => Signed::None,
-        }
+        short_size(-x).map(Signed::Minus)
     } else {
-        match short_size(x) {
-            Num::Is(n) => Signed::Plus(n),
-            Num::None => Signed::None,
-        }
+        short_size(x).map(Signed::Plus)
     }
 }
 
 // ---- No shift, the item's two numbers, or the frame's own two
 
+#[tactic(auto, unfolding(crate::specs::Internal::short_moves_of))]
 pub fn short_moves_of(s: Shift) -> Moves
     ensures value { result ≡ short_moves_of s }
     ensures short_moves { ShortMoves result }
 {
     match s {
         Shift::None => Moves {
-            vertical: Signed::Plus(0),
-            horizontal: Signed::Plus(0),
+            vertical: Some(Signed::Plus(0)),
+            horizontal: Some(Signed::Plus(0)),
         },
-        Shift::Item(v, h) => Moves {
-            vertical: short_of(v),
-            horizontal: short_of(h),
-        },
-        Shift::Frame(v, h) => Moves {
+        Shift::Item(v, h) | Shift::Frame(v, h) => Moves {
             vertical: short_of(v),
             horizontal: short_of(h),
         },
@@ -119,16 +107,11 @@ fn is_shift_of(s: Shift) -> bool
     ensures { result ≡ is_shift_of s }
 {
     let m = short_moves_of(s);
-    let v = m.vertical;
-    let h = m.horizontal;
-    if value::is_number(v) {
-        value::is_number(h)
-    } else {
-        false
-    }
+    m.vertical.is_some() && m.horizontal.is_some()
 }
 
 // A value of two FL numbers, as the item's.
+#[tactic(auto, unfolding(crate::specs::Shift::item_shift))]
 pub fn item_shift(v: &[u8]) -> Shift
     ensures { result ≡ item_shift v.now }
 {
@@ -140,6 +123,7 @@ pub fn item_shift(v: &[u8]) -> Shift
 }
 
 // The same, as the frame's own.
+#[tactic(auto, unfolding(crate::specs::Shift::frame_shift))]
 pub fn frame_shift(v: &[u8]) -> Shift
     ensures { result ≡ frame_shift v.now }
 {
@@ -151,23 +135,17 @@ pub fn frame_shift(v: &[u8]) -> Shift
 }
 
 // A value has rule 35's form.
+#[tactic(auto, unfolding(crate::specs::Shift::is_shift))]
 pub fn is_shift(v: &[u8]) -> bool
     ensures { result ≡ is_shift v.now }
 {
-    if v.len() == 8 {
-        is_shift_of(item_shift(v))
-    } else {
-        false
-    }
+    v.len() == 8 && is_shift_of(item_shift(v))
 }
 
 // A value has rule 37's form.
+#[tactic(auto, unfolding(crate::specs::Shift::is_frame_shift))]
 pub fn is_frame_shift(v: &[u8]) -> bool
     ensures { result ≡ is_frame_shift v.now }
 {
-    if v.len() == 8 {
-        is_shift_of(frame_shift(v))
-    } else {
-        false
-    }
+    v.len() == 8 && is_shift_of(frame_shift(v))
 }

@@ -4,38 +4,24 @@
 
 ghost use Rattle.std.specs.Prelude.{◌*◌, ◌≤◌, length};
 
-use argument::FrameArgument;
-use display::ShowAnswer;
-use printing::{print_broken, print_code, print_field, print_unread};
+use conformance::NotAccepted;
+use display::ShowError;
+use printing::{print_broken, print_code};
 use room::input;
-use show_small::Shown;
+use rowprint::print_error;
+use show_small::{Shown, Sides};
 use std::io;
 use std::io::{Read, Write};
 
-// The head of the image: its kind, masked or native, its size, and the highest level.
-fn print_head<W: Write>(to: &mut W, masked: bool, width: usize, height: usize) -> io::Result<()> {
-    if masked {
-        to.write_all(b"P5\n# masked\n")?;
-    } else {
-        to.write_all(b"P5\n# native\n")?;
-    }
-    write!(to, "{width}")?;
-    print_field(to, b"", height)?;
-    to.write_all(b"\n255\n")
-}
-
-fn print_image<W: Write>(
-    to: &mut W,
-    masked: bool,
-    width: usize,
-    height: usize,
-    image: &[u8],
-) -> io::Result<()>
-    requires { height * width ≤ length image.now }
+// The head of the image says its kind, masked or native, its size, and the highest level.
+fn print_image<W: Write>(to: &mut W, masked: bool, sides: Sides, image: &[u8]) -> io::Result<()>
+    requires { sides.height * sides.width ≤ length image.now }
 {
-    print_head(to, masked, width, height)?;
-    let size = height * width;
-    to.write_all(&image[..size])
+    let kind = if masked { "masked" } else { "native" };
+    let width = sides.width;
+    let height = sides.height;
+    writeln!(to, "P5\n# {kind}\n{width} {height}\n255")?;
+    to.write_all(&image[..height * width])
 }
 
 fn print_shown<W: Write>(to: &mut W, shown: Shown, image: &[u8]) -> io::Result<()>
@@ -44,13 +30,13 @@ fn print_shown<W: Write>(to: &mut W, shown: Shown, image: &[u8]) -> io::Result<(
     let answer = shown.answer;
     let sides = shown.sides;
     match answer {
-        ShowAnswer::Drawn(_, masked) => print_image(to, masked, sides.width, sides.height, image),
-        ShowAnswer::Broken(rows, rule, frame) => print_broken(to, rows, rule, frame),
-        ShowAnswer::Refused(code, offset) => print_unread(to, code, offset),
-        ShowAnswer::TooLarge => print_code(to, 7),
-        ShowAnswer::NoRoom => print_code(to, 8),
-        ShowAnswer::NoFrame => print_code(to, 10),
-        ShowAnswer::NoImageRoom => print_code(to, 11),
+        Ok(drawn) => print_image(to, drawn.masked, sides, image),
+        Err(ShowError::Refused(NotAccepted::Broken(rows, rule, frame))) => {
+            print_broken(to, rows, rule, frame)
+        }
+        Err(ShowError::Refused(NotAccepted::Unread(error))) => print_error(to, error),
+        Err(ShowError::NoFrame) => print_code(to, 10),
+        Err(ShowError::NoImageRoom) => print_code(to, 11),
     }
 }
 
@@ -68,15 +54,14 @@ fn show_input<R: Read, W: Write>(from: &mut R, to: &mut W, frame: u64) -> io::Re
     let mut bytes = input();
     let n = room::read_full(from, &mut bytes)?;
     if room::MOST < n {
-        to.write_all(b"too long: at most 65536 bytes\n")?;
-        return Ok(());
+        return room::print_too_long(to, room::MOST);
     }
     show_frame(to, &bytes[..n], frame)
 }
 
 fn main(rt: HostRuntime) -> io::Result<()> {
     let mut to = rt.stdout();
-    let FrameArgument::Number(frame) = argument::read_frame(&rt, &mut to)? else {
+    let Some(frame) = argument::read_frame(&rt, &mut to)? else {
         return Ok(());
     };
     show_input(&mut rt.stdin(), &mut to, frame)

@@ -2,6 +2,7 @@
 -- since bytes are the digits of the number that they hold, bytes that read well are the ones that were written. All of it
 -- follows from the definitions alone, and so holds of the two calls, whose contracts say that they do what the definitions
 -- give. Assumes nothing.
+use Rattle.std.specs.Prelude.{Option, Some, None, Result, Ok, Err}
 use mathlib.Core.Path.{◌≡◌, refl, sym, ap, ◌∙◌}
 use mathlib.Core.Bool.{Bool, true, false, cond, not, ◌&&◌}
 use Prim.Native.Nat.{ℕ, zero, suc, ◌+◌, ◌-◌, ◌*◌, ◌/◌, ◌%◌, ◌≤◌, ◌<◌}
@@ -13,13 +14,11 @@ use lib.ListN.{length, take, drop, get_or}
 use lib.Seq.{take_at}
 use lib.Dec.{eqb, leb}
 use Rattle.verdict.specs.Verdict.{fields_fit, possible, is_known, writable, without_count}
-use Rattle.verdict.specs.declared.RowCount.{RowCount}
-use Rattle.verdict.specs.declared.RowCount.TheVariants.{Known, NotKnown}
 use Rattle.verdict.specs.declared.Verdict.{Verdict}
 use Rattle.basics.proofs.Tests.{false-is-true, and_both}
 use Rattle.verdict.proofs.Bounds.{Small, possible-small, possible-rows}
-use Rattle.slip.specs.declared.SlipAnswer.{SlipAnswer}
-use Rattle.slip.specs.declared.SlipAnswer.TheVariants as read
+use Rattle.slip.specs.declared.SlipError.{SlipError}
+use Rattle.slip.specs.declared.SlipError.TheVariants as error
 use Rattle.slip.specs.Slip.{mark, version, old_version, version_place, code_place, rule_place, frame_place, offset_place, rows_place}
 use Rattle.slip.specs.Slip.{opening_size, old_size, slip_size, field_bytes, slip_with, slip_by, slip_of, recorded}
 use Rattle.slip.specs.Slip.{if_possible, read_sized, read_version, read_of, slip_buffer}
@@ -49,7 +48,7 @@ module _ (k : ℕ) (v : Verdict) (small : Small v) (rest : List ℕ) where
   unfolding field_bytes le le_number
   offset-back = omega (arith, small.offset)
 
-  fields_back : (rows : RowCount) → v.rows ≡ rows → recorded (field_bytes k v ++ rest) rows ≡ v
+  fields_back : (rows : Option ℕ) → v.rows ≡ rows → recorded (field_bytes k v ++ rest) rows ≡ v
   fields_back rows e = simp (code-back, rule-back, frame_back, offset-back, sym e)
 
 mark-back : (k : ℕ) (v : Verdict) (rest : List ℕ) → same_bytes (take version_place (field_bytes k v ++ rest)) mark ≡ true
@@ -79,22 +78,22 @@ unfolding read_of
 begins s h m = rw (le-leb opening_size (length s) h, m)
 
 -- The right length, and a possible verdict in the fields.
-sized : (size : ℕ) (rows : RowCount) (s : List ℕ) (v : Verdict) → length s ≡ size → recorded s rows ≡ v → possible v ≡ true
-    → read_sized size rows s ≡ read.Read v
+sized : (size : ℕ) (rows : Option ℕ) (s : List ℕ) (v : Verdict) → length s ≡ size → recorded s rows ≡ v → possible v ≡ true
+    → read_sized size rows s ≡ Ok v
 unfolding read_sized if_possible
 sized size rows s v l f h = rw (eq-eqb (length s) size l, f, h)
 
 as-new : (s : List ℕ) → le_number 2 s version_place ≡ version
-    → read_version (le_number 2 s version_place) s ≡ read_sized slip_size (Known (le_number 4 s rows_place)) s
+    → read_version (le_number 2 s version_place) s ≡ read_sized slip_size (Some (le_number 4 s rows_place)) s
 unfolding read_version
 as-new s e = rw e
 
-as-old : (s : List ℕ) → le_number 2 s version_place ≡ old_version → read_version (le_number 2 s version_place) s ≡ read_sized old_size NotKnown s
+as-old : (s : List ℕ) → le_number 2 s version_place ≡ old_version → read_version (le_number 2 s version_place) s ≡ read_sized old_size None s
 unfolding read_version
 as-old s e = rw e
 
 -- A slip with n rows reads as its verdict.
-with-back : (v : Verdict) (n : ℕ) → possible v ≡ true → v.rows ≡ Known n → read_of (slip_with v n) ≡ read.Read v
+with-back : (v : Verdict) (n : ℕ) → possible v ≡ true → v.rows ≡ Some n → read_of (slip_with v n) ≡ Ok v
 unfolding slip_with
 with-back v n h e =
     let s : List ℕ = slip_with v n in
@@ -102,41 +101,41 @@ with-back v n h e =
     let r : le_number 4 s rows_place ≡ n = rows_back v n (omega (arith, possible-rows v n h e)) in
     begins s (omega arith) (mark-back version v (le 4 n))
     ∙ as-new s (version-back v (le 4 n))
-    ∙ sized slip_size (Known (le_number 4 s rows_place)) s v l
-    (fields_back version v (possible-small v h) (le 4 n) (Known (le_number 4 s rows_place)) (e ∙ ap Known (sym r))) h
+    ∙ sized slip_size (Some (le_number 4 s rows_place)) s v l
+    (fields_back version v (possible-small v h) (le 4 n) (Some (le_number 4 s rows_place)) (e ∙ ap Some (sym r))) h
 
 -- A verdict that can be written is possible, and its row count is some number.
-read_back : (v : Verdict) → writable v ≡ true → read_of (slip_of v) ≡ read.Read v
+read_back : (v : Verdict) → writable v ≡ true → read_of (slip_of v) ≡ Ok v
 unfolding writable
 read_back v h = go v.rows refl (and_both (possible v) (is_known v.rows) h).1
   where
-    go : (r : RowCount) → v.rows ≡ r → is_known r ≡ true → read_of (slip_by v r) ≡ read.Read v
-    go (Known n) e k = with-back v n (and_both (possible v) (is_known v.rows) h).0 e
-    go NotKnown e k = absurd (false-is-true k)
+    go : (r : Option ℕ) → v.rows ≡ r → is_known r ≡ true → read_of (slip_by v r) ≡ Ok v
+    go (Some n) e k = with-back v n (and_both (possible v) (is_known v.rows) h).0 e
+    go None e k = absurd (false-is-true k)
 
 slips-differ : (v w : Verdict) → writable v ≡ true → writable w ≡ true → slip_of v ≡ slip_of w → v ≡ w
 slips-differ v w h k e =
-    let a : read_of (slip_of v) ≡ read.Read v = read_back v h in
-    let b : read_of (slip_of w) ≡ read.Read w = read_back w k in
+    let a : read_of (slip_of v) ≡ Ok v = read_back v h in
+    let b : read_of (slip_of w) ≡ Ok w = read_back w k in
     cc
 
 slip-length : (v : Verdict) → writable v ≡ true → length (slip_of v) ≡ slip_size
 unfolding writable
 slip-length v h = go v.rows (and_both (possible v) (is_known v.rows) h).1
   where
-    go : (r : RowCount) → is_known r ≡ true → length (slip_by v r) ≡ slip_size
-    go (Known n) k = length-slip v n
-    go NotKnown k = absurd (false-is-true k)
+    go : (r : Option ℕ) → is_known r ≡ true → length (slip_by v r) ≡ slip_size
+    go (Some n) k = length-slip v n
+    go None k = absurd (false-is-true k)
 
 buffer-back : (v : Verdict) (buffer : List ℕ) → writable v ≡ true → slip_size ≤ length buffer
-    → read_of (take slip_size (slip_buffer v buffer)) ≡ read.Read v
+    → read_of (take slip_size (slip_buffer v buffer)) ≡ Ok v
 unfolding slip_buffer
 buffer-back v buffer h room =
     rw (h, le-leb slip_size (length buffer) room)
     (rw (take_at (slip_of v) (drop slip_size buffer) slip_size (slip-length v h)) (read_back v h))
 
 -- The bytes of version 1 read as the verdict without its count.
-old-read : (v : Verdict) → fields_fit v ≡ true → read_of (old_slip_of v) ≡ read.Read (without_count v)
+old-read : (v : Verdict) → fields_fit v ≡ true → read_of (old_slip_of v) ≡ Ok (without_count v)
 unfolding possible fields_fit field_bytes le
 old-read v h =
     let w : Verdict = without_count v in
@@ -145,24 +144,24 @@ old-read v h =
     let p : possible w ≡ true = rw h in
     begins s (omega arith) (mark-back old_version v [])
     ∙ as-old s (old-version-back v [])
-    ∙ sized old_size NotKnown s w l (fields_back old_version w (possible-small w p) [] NotKnown refl) p
+    ∙ sized old_size None s w l (fields_back old_version w (possible-small w p) [] None refl) p
 
 -- ---- Read, and written again
 
 -- What a slip of a version whose slips have `size` bytes has passed, and the verdict that it gives.
-record Well (size : ℕ) (rows : RowCount) (s : List ℕ) (v : Verdict) : Type 0 where
+record Well (size : ℕ) (rows : Option ℕ) (s : List ℕ) (v : Verdict) : Type 0 where
   long : length s ≡ size
   can : possible v ≡ true
   gives : recorded s rows ≡ v
 
 -- Two tests in their order, whatever they are.
-tests : (a d : Bool) (w v : Verdict) → cond (not a) (read.Refused 12) (cond (not d) (read.Refused 14) (read.Read w)) ≡ read.Read v
+tests : (a d : Bool) (w v : Verdict) → cond (not a) (Err error.NoSlip) (cond (not d) (Err error.NotPossible) (Ok w)) ≡ Ok v
     → (a ≡ true) × ((d ≡ true) × (w ≡ v))
 tests true true w v e = (refl, (refl, cc))
 tests true false w v e = absurd (let z : ◌≡◌ {A = ℕ} 0 1 = cc in omega arith)
 tests false d w v e = absurd (let z : ◌≡◌ {A = ℕ} 0 1 = cc in omega arith)
 
-well : (size : ℕ) (rows : RowCount) (s : List ℕ) (v : Verdict) → read_sized size rows s ≡ read.Read v → Well size rows s v
+well : (size : ℕ) (rows : Option ℕ) (s : List ℕ) (v : Verdict) → read_sized size rows s ≡ Ok v → Well size rows s v
 unfolding read_sized if_possible
 well size rows s v e =
     let t = tests (eqb (length s) size) (possible (recorded s rows)) (recorded s rows) v e in
@@ -173,31 +172,31 @@ well size rows s v e =
     }
 
 -- The mark is there, and the version decides.
-marked-first : (a : Bool) (r : SlipAnswer) (v : Verdict) → cond (not a) (read.Refused 12) r ≡ read.Read v → (a ≡ true) × (r ≡ read.Read v)
+marked-first : (a : Bool) (r : Result Verdict SlipError) (v : Verdict) → cond (not a) (Err error.NoSlip) r ≡ Ok v → (a ≡ true) × (r ≡ Ok v)
 marked-first true r v e = (refl, e)
 marked-first false r v e = absurd (let z : ◌≡◌ {A = ℕ} 0 1 = cc in omega arith)
 
 record Begun (s : List ℕ) (v : Verdict) : Type 0 where
   marked : same_bytes (take version_place s) mark ≡ true
-  on : read_version (le_number 2 s version_place) s ≡ read.Read v
+  on : read_version (le_number 2 s version_place) s ≡ Ok v
 
-begun : (s : List ℕ) (v : Verdict) → read_of s ≡ read.Read v → Begun s v
+begun : (s : List ℕ) (v : Verdict) → read_of s ≡ Ok v → Begun s v
 unfolding read_of
 begun s v e =
     let t = marked-first (leb opening_size (length s) && same_bytes (take version_place s) mark)
     (read_version (le_number 2 s version_place) s) v e in
     record { marked = (and_both (leb opening_size (length s)) (same_bytes (take version_place s) mark) t.0).1; on = t.1 }
 
-read-possible : (s : List ℕ) (v : Verdict) → read_of s ≡ read.Read v → possible v ≡ true
+read-possible : (s : List ℕ) (v : Verdict) → read_of s ≡ Ok v → possible v ≡ true
 unfolding read_version
 read-possible s v e = go (eqb (le_number 2 s version_place) old_version) (eqb (le_number 2 s version_place) version) (begun s v e).on
   where
     go : (a b : Bool)
-        → cond a (read_sized old_size NotKnown s) (cond b (read_sized slip_size (Known (le_number 4 s rows_place)) s) (read.Refused 13))
-        ≡ read.Read v
+        → cond a (read_sized old_size None s) (cond b (read_sized slip_size (Some (le_number 4 s rows_place)) s) (Err error.OtherVersion))
+        ≡ Ok v
         → possible v ≡ true
-    go true b f = (well old_size NotKnown s v f).can
-    go false true f = (well slip_size (Known (le_number 4 s rows_place)) s v f).can
+    go true b f = (well old_size None s v f).can
+    go false true f = (well slip_size (Some (le_number 4 s rows_place)) s v f).can
     go false false f = absurd (let z : ◌≡◌ {A = ℕ} 0 1 = cc in omega arith)
 
 -- The n elements from p on.
@@ -223,7 +222,7 @@ le-number s b (suc n) p =
     rw (low, high, le-number s b n (p + 1))
 
 -- The bytes that both versions have are those of the version and the fields that they hold.
-field-bytes : (s : List ℕ) (rows : RowCount) → IsBytes s → take version_place s ≡ listing version_place s 0
+field-bytes : (s : List ℕ) (rows : Option ℕ) → IsBytes s → take version_place s ≡ listing version_place s 0
     → same_bytes (take version_place s) mark ≡ true
     → listing old_size s 0 ≡ field_bytes (le_number 2 s version_place) (recorded s rows)
 unfolding field_bytes
@@ -238,36 +237,36 @@ field-bytes s rows b t m =
     )
     (ap (λ (l : List ℕ). l ++ listing (old_size - version_place) s version_place) first)
 
-write-back : (s : List ℕ) (v : Verdict) → IsBytes s → read_of s ≡ read.Read v → le_number 2 s version_place ≡ version
+write-back : (s : List ℕ) (v : Verdict) → IsBytes s → read_of s ≡ Ok v → le_number 2 s version_place ≡ version
     → (writable v ≡ true) × (s ≡ slip_of v)
 unfolding writable slip_with
 write-back s v b e k =
     let g = begun s v e in
     let n : ℕ = le_number 4 s rows_place in
-    let w = well slip_size (Known n) s v (sym (as-new s k) ∙ g.on) in
+    let w = well slip_size (Some n) s v (sym (as-new s k) ∙ g.on) in
     let all : s ≡ listing slip_size s 0 = listed s ∙ ap (λ (n : ℕ). listing n s 0) w.long in
-    let same : listing old_size s 0 ≡ field_bytes version (recorded s (Known n)) =
-    field-bytes s (Known n) b (ap (λ (l : List ℕ). take version_place l) all) g.marked
-    ∙ ap (λ (k : ℕ). field_bytes k (recorded s (Known n))) k
+    let same : listing old_size s 0 ≡ field_bytes version (recorded s (Some n)) =
+    field-bytes s (Some n) b (ap (λ (l : List ℕ). take version_place l) all) g.marked
+    ∙ ap (λ (k : ℕ). field_bytes k (recorded s (Some n))) k
     in
     let known : is_known v.rows ≡ true = ap (λ (v : Verdict). is_known v.rows) (sym w.gives) in (
       rw (w.can, known),
       all
           ∙ ap (λ (l : List ℕ). l ++ listing 4 s rows_place) same
-          ∙ ap (λ (l : List ℕ). field_bytes version (recorded s (Known n)) ++ l) (sym (le-number s b 4 rows_place))
+          ∙ ap (λ (l : List ℕ). field_bytes version (recorded s (Some n)) ++ l) (sym (le-number s b 4 rows_place))
           ∙ ap slip_of w.gives,
     )
 
-old-back : (s : List ℕ) (v : Verdict) → IsBytes s → read_of s ≡ read.Read v → le_number 2 s version_place ≡ old_version
-    → (v.rows ≡ NotKnown) × (s ≡ old_slip_of v)
+old-back : (s : List ℕ) (v : Verdict) → IsBytes s → read_of s ≡ Ok v → le_number 2 s version_place ≡ old_version
+    → (v.rows ≡ None) × (s ≡ old_slip_of v)
 old-back s v b e k =
     let g = begun s v e in
-    let w = well old_size NotKnown s v (sym (as-old s k) ∙ g.on) in
+    let w = well old_size None s v (sym (as-old s k) ∙ g.on) in
     let all : s ≡ listing old_size s 0 = listed s ∙ ap (λ (n : ℕ). listing n s 0) w.long in (
       ap (λ (v : Verdict). v.rows) (sym w.gives),
       all
-          ∙ field-bytes s NotKnown b (ap (λ (l : List ℕ). take version_place l) all) g.marked
-          ∙ ap (λ (k : ℕ). field_bytes k (recorded s NotKnown)) k
+          ∙ field-bytes s None b (ap (λ (l : List ℕ). take version_place l) all) g.marked
+          ∙ ap (λ (k : ℕ). field_bytes k (recorded s None)) k
           ∙ ap old_slip_of w.gives,
     )
 

@@ -1,17 +1,12 @@
 -- Verdict slips (document 01, "A slip records a verdict"; document 02, Q-13): the bytes of a slip, and what reading and
 -- writing one answer. Slips of version 2 are written; those of versions 1 and 2 are read.
-use Rattle.std.specs.Prelude.{ℕ, cond, not, ◌&&◌, List, [], ◌∷◌, ◌++◌, length, take, drop, eqb, leb}
-use Rattle.std.proofs.Math.Option.{Option, none, some}
+use Rattle.std.specs.Prelude.{ℕ, cond, not, ◌&&◌, List, [], ◌∷◌, ◌++◌, length, take, drop, eqb, leb, Option, Some, None, Result, Ok, Err}
 use Rattle.basics.specs.Bytes.{same_bytes, le_number, le}
 use Rattle.basics.specs.Fields.{Fields, code_alone}
 use Rattle.verdict.specs.Verdict.{possible, writable}
-use Rattle.verdict.specs.declared.RowCount.{RowCount}
-use Rattle.verdict.specs.declared.RowCount.TheVariants.{Known, NotKnown}
 use Rattle.verdict.specs.declared.Verdict.{Verdict}
-use Rattle.slip.specs.declared.SlipAnswer.{SlipAnswer}
-use Rattle.slip.specs.declared.SlipAnswer.TheVariants as read
-use Rattle.slip.specs.declared.WriteAnswer.{WriteAnswer}
-use Rattle.slip.specs.declared.WriteAnswer.TheVariants as write
+use Rattle.slip.specs.declared.SlipError.{SlipError}
+use Rattle.slip.specs.declared.SlipError.TheVariants as error
 
 -- ---- The layout: "XAV", version (16 bits), code (8), rule (8), frame (16), offset (32); in version 2 also the row count
 -- (32); little-endian
@@ -60,12 +55,21 @@ unfoldable pub slip_with : Verdict → ℕ → List ℕ
 slip_with v n = field_bytes version v ++ le 4 n
 
 -- The bytes of a verdict's slip. A verdict with an unknown row count has no slip.
-abbrev pub slip_by : Verdict → RowCount → List ℕ
-slip_by v (Known n) = slip_with v n
-slip_by v NotKnown = []
+abbrev pub slip_by : Verdict → Option ℕ → List ℕ
+slip_by v (Some n) = slip_with v n
+slip_by v None = []
 
 abbrev pub slip_of : Verdict → List ℕ
 slip_of v = slip_by v v.rows
+
+-- ---- Refusals
+
+-- The paper's number of each.
+abbrev pub code_of : SlipError → ℕ
+code_of error.NoRoom = 11
+code_of error.NoSlip = 12
+code_of error.OtherVersion = 13
+code_of error.NotPossible = 14
 
 -- ---- Reading: 12 for fewer than 5 bytes or a wrong mark; 13; 12 where the length is not the version's; 14
 
@@ -74,7 +78,7 @@ abbrev pub opening_size : ℕ
 opening_size = 5
 
 -- The verdict that a slip's fields record, unchecked, with a row count.
-abbrev pub recorded : List ℕ → RowCount → Verdict
+abbrev pub recorded : List ℕ → Option ℕ → Verdict
 recorded s rows = record {
   code = le_number 1 s code_place;
   rule = le_number 1 s rule_place;
@@ -83,23 +87,23 @@ recorded s rows = record {
   rows = rows;
 }
 
-unfoldable pub if_possible : Verdict → SlipAnswer
-if_possible v = cond (not (possible v)) (read.Refused 14) (read.Read v)
+unfoldable pub if_possible : Verdict → Result Verdict SlipError
+if_possible v = cond (not (possible v)) (Err error.NotPossible) (Ok v)
 
 -- A slip of a version whose slips have `size` bytes.
-unfoldable pub read_sized : ℕ → RowCount → List ℕ → SlipAnswer
-read_sized size rows s = cond (not (eqb (length s) size)) (read.Refused 12) (if_possible (recorded s rows))
+unfoldable pub read_sized : ℕ → Option ℕ → List ℕ → Result Verdict SlipError
+read_sized size rows s = cond (not (eqb (length s) size)) (Err error.NoSlip) (if_possible (recorded s rows))
 
 -- Version 1 does not record the row count.
-unfoldable pub read_version : ℕ → List ℕ → SlipAnswer
+unfoldable pub read_version : ℕ → List ℕ → Result Verdict SlipError
 read_version k s =
-    cond (eqb k old_version) (read_sized old_size NotKnown s)
-    (cond (eqb k version) (read_sized slip_size (Known (le_number 4 s rows_place)) s)
-    (read.Refused 13))
+    cond (eqb k old_version) (read_sized old_size None s)
+    (cond (eqb k version) (read_sized slip_size (Some (le_number 4 s rows_place)) s)
+    (Err error.OtherVersion))
 
-unfoldable pub read_of : List ℕ → SlipAnswer
+unfoldable pub read_of : List ℕ → Result Verdict SlipError
 read_of s =
-    cond (not (leb opening_size (length s) && same_bytes (take version_place s) mark)) (read.Refused 12)
+    cond (not (leb opening_size (length s) && same_bytes (take version_place s) mark)) (Err error.NoSlip)
     (read_version (le_number 2 s version_place) s)
 
 -- The paper's numbers for each case: the code, and with code 0 the verdict read.
@@ -107,23 +111,23 @@ pub record SlipFields : Type 0 where
   pub code : ℕ
   pub verdict : Option Verdict
 
-abbrev pub read_slip_fields : SlipAnswer → SlipFields
-read_slip_fields (read.Read v) = record { code = 0; verdict = some v }
-read_slip_fields (read.Refused code) = record { code = code; verdict = none }
+abbrev pub read_slip_fields : Result Verdict SlipError → SlipFields
+read_slip_fields (Ok v) = record { code = 0; verdict = Some v }
+read_slip_fields (Err e) = record { code = code_of e; verdict = None }
 
 -- ---- Writing: 14, for a count that is not known too; then 11
 
-unfoldable pub write_of : Verdict → List ℕ → WriteAnswer
+unfoldable pub write_of : Verdict → List ℕ → Result (Unit {0}) SlipError
 write_of v buffer =
-    cond (not (writable v)) (write.Refused 14)
-    (cond (not (leb slip_size (length buffer))) (write.Refused 11)
-    write.Written)
+    cond (not (writable v)) (Err error.NotPossible)
+    (cond (not (leb slip_size (length buffer))) (Err error.NoRoom)
+    (Ok tt))
 
 -- The buffer afterwards: the slip, and untouched beyond it; untouched by a refusal.
 unfoldable pub slip_buffer : Verdict → List ℕ → List ℕ
 slip_buffer v buffer = cond (writable v && leb slip_size (length buffer)) (slip_of v ++ drop slip_size buffer) buffer
 
 -- The paper's numbers for each case: the code alone.
-abbrev pub write_slip_fields : WriteAnswer → Fields
-write_slip_fields write.Written = code_alone 0
-write_slip_fields (write.Refused code) = code_alone code
+abbrev pub write_slip_fields : Result (Unit {0}) SlipError → Fields
+write_slip_fields (Ok done) = code_alone 0
+write_slip_fields (Err e) = code_alone (code_of e)

@@ -8,7 +8,7 @@ ghost use Rattle.squareroot.specs.SquareRoot.{root_level, root_entry};
 pub fn entry(p: u8) -> u16
     ensures { result ≡ root_entry p }
 {
-    let n = p as usize;
+    let n = usize::from(p);
     ((n * n + 3) / 4) as u16
 }
 

@@ -1,20 +1,21 @@
 // The answers of the steps, in words and numbers. What a step lacks is printed as `lacks`.
+use pixel::Geometry;
 use shift::Shift;
 use std::io;
 use std::io::Write;
-use steps::{Found, Holds, Shifts, Sized, Windowed};
 use value::{Function, Signed};
+use window::Window;
 
 pub fn print_number<W: Write>(to: &mut W, n: usize) -> io::Result<()> {
     write!(to, " {n}")
 }
 
 // A number with its sign; zero has none. A number that was not read, or not as a small whole one, is `other`.
-fn print_signed<W: Write>(to: &mut W, n: Signed) -> io::Result<()> {
+fn print_signed<W: Write>(to: &mut W, n: Option<Signed>) -> io::Result<()> {
     match n {
-        Signed::Plus(k) => print_number(to, k),
-        Signed::Minus(k) => print_minus(to, k),
-        Signed::None => to.write_all(b" other"),
+        Some(Signed::Plus(k)) => print_number(to, k),
+        Some(Signed::Minus(k)) => print_minus(to, k),
+        None => to.write_all(b" other"),
     }
 }
 
@@ -27,36 +28,36 @@ fn print_minus<W: Write>(to: &mut W, k: usize) -> io::Result<()> {
 }
 
 // Rows, Columns, bytes of a sample and bits stored in it.
-pub fn print_size<W: Write>(to: &mut W, size: Sized) -> io::Result<()> {
+pub fn print_size<W: Write>(to: &mut W, size: Option<Geometry>) -> io::Result<()> {
     match size {
-        Sized::Is(g) => {
+        Some(g) => {
             to.write_all(b"size")?;
             print_number(to, g.rows)?;
             print_number(to, g.columns)?;
             print_number(to, g.width)?;
             print_number(to, g.stored)
         }
-        Sized::Lacks => to.write_all(b"size lacks"),
+        None => to.write_all(b"size lacks"),
     }
 }
 
-pub fn print_inverse<W: Write>(to: &mut W, inverse: Holds) -> io::Result<()> {
+pub fn print_inverse<W: Write>(to: &mut W, inverse: Option<bool>) -> io::Result<()> {
     match inverse {
-        Holds::Yes => to.write_all(b" inverse yes"),
-        Holds::No => to.write_all(b" inverse no"),
-        Holds::Lacks => to.write_all(b" inverse lacks"),
+        Some(true) => to.write_all(b" inverse yes"),
+        Some(false) => to.write_all(b" inverse no"),
+        None => to.write_all(b" inverse lacks"),
     }
 }
 
 // Step 3, TID: the mask frame, or that the frame is native.
-pub fn print_tid<W: Write>(to: &mut W, frame: Found) -> io::Result<()> {
+pub fn print_tid<W: Write>(to: &mut W, frame: Option<Option<usize>>) -> io::Result<()> {
     match frame {
-        Found::At(n) => {
+        Some(Some(n)) => {
             to.write_all(b" tid")?;
             print_number(to, n)
         }
-        Found::Absent => to.write_all(b" tid native"),
-        Found::Lacks => to.write_all(b" tid lacks"),
+        Some(None) => to.write_all(b" tid native"),
+        None => to.write_all(b" tid lacks"),
     }
 }
 
@@ -72,40 +73,35 @@ fn print_kind<W: Write>(to: &mut W, s: Shift) -> io::Result<()> {
 fn print_moves<W: Write>(to: &mut W, s: Shift) -> io::Result<()> {
     print_kind(to, s)?;
     let m = shift::short_moves_of(s);
-    let v = m.vertical;
-    let h = m.horizontal;
-    print_signed(to, v)?;
-    print_signed(to, h)
+    print_signed(to, m.vertical)?;
+    print_signed(to, m.horizontal)
 }
 
 // Step 4.
-pub fn print_shift<W: Write>(to: &mut W, shift: Shifts) -> io::Result<()> {
+pub fn print_shift<W: Write>(to: &mut W, shift: Option<Shift>) -> io::Result<()> {
     match shift {
-        Shifts::Is(s) => print_moves(to, s),
-        Shifts::Lacks => to.write_all(b" shift lacks"),
+        Some(s) => print_moves(to, s),
+        None => to.write_all(b" shift lacks"),
     }
 }
 
-fn print_function<W: Write>(to: &mut W, function: Function) -> io::Result<()> {
+fn print_function<W: Write>(to: &mut W, function: Option<Function>) -> io::Result<()> {
     match function {
-        Function::Linear => to.write_all(b" LINEAR"),
-        Function::Exact => to.write_all(b" LINEAR_EXACT"),
-        Function::Other => to.write_all(b" other"),
+        Some(Function::Linear) => to.write_all(b" LINEAR"),
+        Some(Function::Exact) => to.write_all(b" LINEAR_EXACT"),
+        None => to.write_all(b" other"),
     }
 }
 
 // Step 6: the function, and the centre and the width in units of a DS number.
-pub fn print_window<W: Write>(to: &mut W, window: Windowed) -> io::Result<()> {
+pub fn print_window<W: Write>(to: &mut W, window: Option<Window>) -> io::Result<()> {
     match window {
-        Windowed::Is(w) => {
-            let function = w.function;
-            let center = w.center;
-            let width = w.width;
+        Some(w) => {
             to.write_all(b" window")?;
-            print_function(to, function)?;
-            print_signed(to, center)?;
-            print_signed(to, width)
+            print_function(to, w.function)?;
+            print_signed(to, w.center)?;
+            print_signed(to, w.width)
         }
-        Windowed::Lacks => to.write_all(b" window lacks"),
+        None => to.write_all(b" window lacks"),
     }
 }

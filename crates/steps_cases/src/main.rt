@@ -6,10 +6,10 @@ mod answers;
 mod frames;
 
 ghost use Rattle.std.specs.Prelude.{◌≡◌, length};
-ghost use Rattle.node.specs.Internal.{Table};
 
 use cases::{case_at, print_rest};
-use dataset::ReadAnswer;
+use dataset::ReadError;
+use node::DataSet;
 use room::row_buffer;
 use std::io;
 use std::io::Write;
@@ -22,16 +22,14 @@ fn input() -> [u8; 262_144]
 }
 
 // A line for the data set, and one for each of the frames 0 to 4, some of which are in no data set.
-fn print_steps<W: Write>(to: &mut W, bytes: &[u8], rows: &[u32]) -> io::Result<()>
-    requires { Table bytes.now rows.now }
-{
-    let size = steps::geometry_of(bytes, rows);
-    let pixels = steps::pixel_element(bytes, rows);
+fn print_steps<W: Write>(to: &mut W, set: &DataSet) -> io::Result<()> {
+    let size = steps::geometry_of(set);
+    let pixels = steps::pixel_element(set);
     answers::print_size(to, size)?;
-    answers::print_inverse(to, steps::inverse_of(bytes, rows))?;
-    frames::print_pixels(to, bytes, rows, pixels)?;
+    answers::print_inverse(to, steps::inverse_of(set))?;
+    frames::print_pixels(to, set, pixels)?;
     for frame in 0..5 {
-        frames::print_frame(to, bytes, rows, size, pixels, frame)?;
+        frames::print_frame(to, set, size, pixels, frame)?;
     }
     Ok(())
 }
@@ -39,27 +37,21 @@ fn print_steps<W: Write>(to: &mut W, bytes: &[u8], rows: &[u32]) -> io::Result<(
 fn print_case<W: Write>(to: &mut W, bytes: &[u8]) -> io::Result<()> {
     let mut rows = row_buffer();
     match dataset::read(bytes, &mut rows) {
-        ReadAnswer::Done(n) => {
-            let end = dataset::WIDTH * n;
-            print_steps(to, bytes, &rows[..end])
+        Ok(n) => {
+            let set = DataSet::new(bytes, &rows[..dataset::WIDTH * n]);
+            print_steps(to, &set)
         }
-        ReadAnswer::Refused(_, _) => to.write_all(b"unread\n"),
-        ReadAnswer::TooLarge => to.write_all(b"too large\n"),
-        ReadAnswer::NoRoom => to.write_all(b"no room\n"),
+        Err(ReadError::Refused(_)) => to.write_all(b"unread\n"),
+        Err(ReadError::TooLarge) => to.write_all(b"too large\n"),
+        Err(ReadError::NoRoom) => to.write_all(b"no room\n"),
     }
 }
 
 fn print_cases<W: Write>(to: &mut W, cases: &[u8]) -> io::Result<()> {
-    let mut at: usize = 0;
-    loop {
-        let case = case_at(cases, at);
-        let start = case.start;
-        let end = case.end;
-        if end == at {
-            break;
-        }
-        print_case(to, &cases[start..end])?;
-        at = end;
+    let mut at = 0;
+    while let Some(case) = case_at(cases, at) {
+        at = case.end;
+        print_case(to, &cases[case])?;
     }
     print_rest(to, cases, at)
 }

@@ -1,4 +1,5 @@
 -- A window that is scaled, with everything in it, gives the same level.
+use Rattle.std.specs.Prelude.{Option, Some, None}
 use mathlib.Core.Path.{◌≡◌, sym, ap, ◌∙◌}
 use mathlib.Core.Bool.{not}
 use Prim.Native.Nat.{ℕ, zero, suc, ◌+◌, ◌-◌, ◌*◌, ◌/◌, ◌^◌}
@@ -97,21 +98,21 @@ level-scaled se sc sw st =
       same-floor (of-less (of-plus (of-255 (of-plus (of-less st (of_two sc)) sw)) sw) se) (of_two (of-less sw se)),
     )
 
-scaled-off : (f : Function) → Scaled (pos (taken_off_before f)) (pos (window.taken_off f))
-scaled-off function.Linear = of-whole unit_before
-scaled-off function.Exact = of-whole 0
-scaled-off function.Other = of-whole unit_before
+scaled-off : (f : Option Function) → Scaled (pos (taken_off_before f)) (pos (window.taken_off f))
+scaled-off (Some function.Linear) = of-whole unit_before
+scaled-off (Some function.Exact) = of-whole 0
+scaled-off None = of-whole unit_before
 
-scaled-signed : (s : Signed) → Scaled (integer s) (integer (scaled s))
-scaled-signed (signed.Plus n) = of-whole n
-scaled-signed (signed.Minus zero) = of-whole 0
-scaled-signed (signed.Minus (suc n)) = record {
+scaled-signed : (s : Option Signed) → Scaled (integer s) (integer (scaled s))
+scaled-signed (Some (signed.Plus n)) = of-whole n
+scaled-signed (Some (signed.Minus zero)) = of-whole 0
+scaled-signed (Some (signed.Minus (suc n))) = record {
   a = 0;
   b = suc n;
   one = record { is = omega arith };
-  thousand = shift (signed-gap (signed.Minus (factor * suc n))) 0 (factor * suc n) (omega arith);
+  thousand = shift (signed-gap (Some (signed.Minus (factor * suc n)))) 0 (factor * suc n) (omega arith);
 }
-scaled-signed signed.None = of-whole 0
+scaled-signed None = of-whole 0
 
 scaled-place : (x : ℤ) → Scaled (pos (2 * unit_before) *ℤ x) (pos (2 * current.unit) *ℤ x)
 scaled-place x = record {
@@ -139,8 +140,8 @@ same_half w x = same_at w (of-plus (scaled-place x) (of-whole unit_before))
 pub same_full : (stored : ℕ) → window.full_window stored ≡ scaled_window (full_window_before stored)
 unfolding window.full_window full_window_before
 same_full stored =
-    ap (λ (n : ℕ). record { center = signed.Plus n; width = signed.Plus (current.unit * 2 ^ stored); function = function.Linear })
+    ap (λ (n : ℕ). record { center = Some (signed.Plus n); width = Some (signed.Plus (current.unit * 2 ^ stored)); function = Some function.Linear })
     (omega arith)
     ∙ ap (λ (n : ℕ).
-    record { center = signed.Plus (factor * (unit_before * 2 ^ stored / 2)); width = signed.Plus n; function = function.Linear })
+    record { center = Some (signed.Plus (factor * (unit_before * 2 ^ stored / 2))); width = Some (signed.Plus n); function = Some function.Linear })
     (omega arith)

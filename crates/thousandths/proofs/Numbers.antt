@@ -1,4 +1,5 @@
 -- A number that was read as n thousandths is read as 1000 n millionths.
+use Rattle.std.specs.Prelude.{Option, Some, None}
 use mathlib.Core.Path.{◌≡◌, refl, ap, ◌∙◌}
 use mathlib.Core.Bool.{Bool, true, false, cond, not, ◌||◌, false≢true}
 use mathlib.Core.List.{List, [], ◌∷◌}
@@ -9,13 +10,12 @@ use lib.ListN.{length}
 use lib.Pow.{pow-add}
 use lib.Dec.{eqb}
 use borrow.Author.Tests.{ne_eqb, eqb-true, eqb-false, le-leb}
-use Rattle.value.specs.declared.Num.{Num}
-use Rattle.value.specs.declared.Num.TheVariants as num
 use Rattle.value.specs.declared.Signed.{Signed}
 use Rattle.value.specs.Text.{trimmed}
 use Rattle.value.specs.Number as current
 use Rattle.value.specs.Number.{Digits, is_digit, digits_of, after_sign, is_minus, with_sign, signed_by, run_of, if_small, exact_of, end_of, is_number}
 use Rattle.value.proofs.Runs.{digits-size, digits-below}
+use Rattle.steps.proofs.Given.{never}
 use Rattle.value.proofs.Powers.{within-is, exact-up}
 use Rattle.thousandths.specs.Number.{decimals_before, unit_before, point_on_before, fraction_on_before, size_of_before, decimal_of_before}
 use Rattle.thousandths.specs.Number.{factor, scaled}
@@ -73,17 +73,14 @@ counted (suc limit) n k (c ∷ s) = go (is_digit c) (counted limit (10 * n + (c 
 -- ---- Sizes
 
 pub record Reads (s : List ℕ) (n : ℕ) : Type 0 where
-  pub is : current.size_of s ≡ num.Is (factor * n)
+  pub is : current.size_of s ≡ Some (factor * n)
   pub short : length s ≤ 10
 
-lacks : (n : ℕ) → num.None ≡ num.Is n → ⊥
-lacks n e = let z : ◌≡◌ {A = ℕ} 0 1 = cc in omega arith
-
-chosen : (k m n : ℕ) → cond (eqb k 0) num.None (num.Is m) ≡ num.Is n → (k ≡ 0 → ⊥) × (m ≡ n)
+chosen : (k m n : ℕ) → cond (eqb k 0) None (Some m) ≡ Some n → (k ≡ 0 → ⊥) × (m ≡ n)
 chosen k m n e = go (eqb k 0) refl e
   where
-    go : (t : Bool) → eqb k 0 ≡ t → cond t num.None (num.Is m) ≡ num.Is n → (k ≡ 0 → ⊥) × (m ≡ n)
-    go true p e = absurd (lacks n e)
+    go : (t : Bool) → eqb k 0 ≡ t → cond t None (Some m) ≡ Some n → (k ≡ 0 → ⊥) × (m ≡ n)
+    go true p e = absurd (never e)
     go false p e = (eqb-false k 0 p, let q : m ≡ n = cc in q)
 
 -- With `after` decimals, at most 3.
@@ -94,14 +91,14 @@ powers m after h =
     ∙ mul_left_comm m factor (10 ^ (decimals_before - after))
 
 exact-is : (m after : ℕ) → after ≤ 3 → m * 10 ^ (3 - after) < 1000000000
-    → exact_of m current.decimals after ≡ num.Is (factor * (m * 10 ^ (3 - after)))
+    → exact_of m current.decimals after ≡ Some (factor * (m * 10 ^ (3 - after)))
 exact-is m after h b =
     exact-up m current.decimals after (omega arith)
     ∙ ap if_small (powers m after h)
     ∙ within-is (factor * (m * 10 ^ (3 - after))) (omega arith)
 
 end_is : (count m after : ℕ) → (count ≡ 0 → ⊥) → after ≤ 3 → m * 10 ^ (3 - after) < 1000000000
-    → end_of count m after [] ≡ num.Is (factor * (m * 10 ^ (3 - after)))
+    → end_of count m after [] ≡ Some (factor * (m * 10 ^ (3 - after)))
 unfolding end_of
 end_is count m after z h b = rw (ne_eqb count 0 z) (exact-is m after h b)
 
@@ -115,13 +112,13 @@ point-size whole s h =
 
 -- Behind a point.
 point-reads : (before whole : ℕ) (s : List ℕ) (n : ℕ) → whole < 1000000
-    → point_on_before before (digits_of decimals_before whole 0 s) (digits_of decimals_before whole 0 s).rest ≡ num.Is n
-    → (current.point_by before (run_of whole s) ≡ num.Is (factor * n)) × (length s ≤ 3)
+    → point_on_before before (digits_of decimals_before whole 0 s) (digits_of decimals_before whole 0 s).rest ≡ Some n
+    → (current.point_by before (run_of whole s) ≡ Some (factor * n)) × (length s ≤ 3)
 point-reads before whole s n h e = go (digits_of 3 whole 0 s).rest refl e
   where
-    go : (rest : List ℕ) → (digits_of 3 whole 0 s).rest ≡ rest → point_on_before before (digits_of decimals_before whole 0 s) rest ≡ num.Is n
-        → (current.point_by before (run_of whole s) ≡ num.Is (factor * n)) × (length s ≤ 3)
-    go (c ∷ t) r e = absurd (lacks n e)
+    go : (rest : List ℕ) → (digits_of 3 whole 0 s).rest ≡ rest → point_on_before before (digits_of decimals_before whole 0 s) rest ≡ Some n
+        → (current.point_by before (run_of whole s) ≡ Some (factor * n)) × (length s ≤ 3)
+    go (c ∷ t) r e = absurd (never e)
     go [] r e =
         let x = digits_of 3 whole 0 s in
         let k = counted 3 whole 0 s in
@@ -131,15 +128,15 @@ point-reads before whole s n h e = go (digits_of 3 whole 0 s).rest refl e
           ap (current.point_by before) same
               ∙ ap (end_of (before + x.count) x.number x.count) r
               ∙ end_is (before + x.count) x.number x.count p.0 (omega (arith, k.few)) (point-size whole s h)
-              ∙ ap (λ (y : ℕ). num.Is (factor * y)) p.1,
+              ∙ ap (λ (y : ℕ). Some (factor * y)) p.1,
           omega (arith, k.all, k.few, l),
         )
 
-pub reads : (s : List ℕ) (n : ℕ) → size_of_before s ≡ num.Is n → Reads s n
+pub reads : (s : List ℕ) (n : ℕ) → size_of_before s ≡ Some n → Reads s n
 unfolding size_of_before current.size_of
 reads s n e = go (digits_of 6 0 0 s).rest refl e
   where
-    go : (rest : List ℕ) → (digits_of 6 0 0 s).rest ≡ rest → fraction_on_before (digits_of 6 0 0 s) rest ≡ num.Is n → Reads s n
+    go : (rest : List ℕ) → (digits_of 6 0 0 s).rest ≡ rest → fraction_on_before (digits_of 6 0 0 s) rest ≡ Some n → Reads s n
     go [] r e =
         let d = digits_of 6 0 0 s in
         let k = counted 6 0 0 s in
@@ -152,16 +149,16 @@ reads s n e = go (digits_of 6 0 0 s).rest refl e
               ap current.fraction_by same
               ∙ ap (current.fraction_on d) r
               ∙ end_is d.count d.number 0 p.0 (omega arith) (omega arith)
-              ∙ ap (λ (y : ℕ). num.Is (factor * y)) p.1;
+              ∙ ap (λ (y : ℕ). Some (factor * y)) p.1;
           short = omega (arith, k.all, k.few, l);
         }
     go (c ∷ t) r e = by-point (eqb c 0x2E) refl e
       where
         by-point : (b : Bool) → eqb c 0x2E ≡ b
             → cond b (point_on_before (digits_of 6 0 0 s).count (digits_of 3 (digits_of 6 0 0 s).number 0 t)
-            (digits_of 3 (digits_of 6 0 0 s).number 0 t).rest) num.None ≡ num.Is n
+            (digits_of 3 (digits_of 6 0 0 s).number 0 t).rest) None ≡ Some n
             → Reads s n
-        by-point false q e = absurd (lacks n e)
+        by-point false q e = absurd (never e)
         by-point true q e =
             let d = digits_of 6 0 0 s in
             let k = counted 6 0 0 s in
@@ -179,15 +176,15 @@ reads s n e = go (digits_of 6 0 0 s).rest refl e
 
 -- ---- With a sign, and without outer spaces
 
-record SignedReads (s : List ℕ) (old : Signed) : Type 0 where
+record SignedReads (s : List ℕ) (old : Option Signed) : Type 0 where
   pub is : signed_by current.size_of s ≡ scaled old
   pub short : length s ≤ 11
 
-sign_reads : (minus : Bool) (t : List ℕ) (o : Num) → size_of_before t ≡ o → is_number (with_sign minus o) ≡ true
+sign_reads : (minus : Bool) (t : List ℕ) (o : Option ℕ) → size_of_before t ≡ o → is_number (with_sign minus o) ≡ true
     → (with_sign minus (current.size_of t) ≡ scaled (with_sign minus o)) × (length t ≤ 10)
-sign_reads true t (num.Is n) q e = let r = reads t n q in (ap (with_sign true) r.is, r.short)
-sign_reads false t (num.Is n) q e = let r = reads t n q in (ap (with_sign false) r.is, r.short)
-sign_reads minus t num.None q e = absurd (false≢true e)
+sign_reads true t (Some n) q e = let r = reads t n q in (ap (with_sign true) r.is, r.short)
+sign_reads false t (Some n) q e = let r = reads t n q in (ap (with_sign false) r.is, r.short)
+sign_reads minus t None q e = absurd (false≢true e)
 
 after-long : (s : List ℕ) → length s ≤ length (after_sign s) + 1
 after-long [] = omega arith

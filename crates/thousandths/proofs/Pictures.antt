@@ -1,14 +1,12 @@
 -- A picture that the steps gave they give.
+use Rattle.std.specs.Prelude.{Option, Some, None}
 use mathlib.Core.Path.{◌≡◌, refl, ap, ◌∙◌}
 use mathlib.Core.Bool.{Bool, true, ◌&&◌}
 use mathlib.Core.List.{List}
-use mathlib.Core.Option.{Option, none, some}
 use Prim.Native.Nat.{ℕ}
 use lib.Dec.{eqb}
 use lib.ListN.{length}
 use lib.IntN.{pos}
-use Rattle.value.specs.declared.Num.{Num}
-use Rattle.value.specs.declared.Num.TheVariants.{Is, None}
 use Rattle.value.specs.declared.Function.{Function}
 use Rattle.value.specs.Text.{values_of, value_of}
 use Rattle.value.specs.Words.{is_function}
@@ -44,8 +42,8 @@ use Rattle.thousandths.proofs.Rules.{number-scaled}
 
 module _ {A B : Type 0} where
   then_same : (o : Option B) (f g : B → Option A) → ((b : B) → f b ≡ g b) → then o f ≡ then o g
-  then_same none f g h = refl
-  then_same (some b) f g h = h b
+  then_same None f g h = refl
+  then_same (Some b) f g h = h b
 
 check-same : {A : Type 0} (t : Bool) (a b : Option A) → a ≡ b → check t a ≡ check t b
 check-same t a b e = ap (check t) e
@@ -54,14 +52,14 @@ check-same t a b e = ap (check t) e
 
 module _ (ns : List Node) where
   -- The window of the centre at c and the width at d, with a function.
-  abbrev of_values : Function → ℕ → ℕ → Window
+  abbrev of_values : Option Function → ℕ → ℕ → Window
   of_values k c d =
       record { center = decimal_of_before (value_of (value_at ns c) 0); width = decimal_of_before (value_of (value_at ns d) 0); function = k }
 
-  now-in : (is : List ℕ) (c d : ℕ) → find_vr ns Tags.WindowCenter DS is ≡ Is c → find_vr ns Tags.WindowWidth DS is ≡ Is d
+  now-in : (is : List ℕ) (c d : ℕ) → find_vr ns Tags.WindowCenter DS is ≡ Some c → find_vr ns Tags.WindowWidth DS is ≡ Some d
       → is_number (decimal_of_before (value_of (value_at ns c) 0)) ≡ true → is_number (decimal_of_before (value_of (value_at ns d) 0)) ≡ true
       → is_function (function_in ns is) ≡ true
-      → steps.window_in ns is ≡ some (scaled_window (of_values (function_in ns is) c d))
+      → steps.window_in ns is ≡ Some (scaled_window (of_values (function_in ns is) c d))
   unfolding steps.window_in
   now-in is c d p q x y z =
       rw (
@@ -74,14 +72,14 @@ module _ (ns : List Node) where
         z,
       )
 
-  then-in : (is : List ℕ) (c d : ℕ) → find_vr ns Tags.WindowCenter DS is ≡ Is c → find_vr ns Tags.WindowWidth DS is ≡ Is d
+  then-in : (is : List ℕ) (c d : ℕ) → find_vr ns Tags.WindowCenter DS is ≡ Some c → find_vr ns Tags.WindowWidth DS is ≡ Some d
       → is_number (decimal_of_before (value_of (value_at ns c) 0)) ≡ true → is_number (decimal_of_before (value_of (value_at ns d) 0)) ≡ true
       → is_function (function_in ns is) ≡ true
-      → window_in_before ns is ≡ some (of_values (function_in ns is) c d)
+      → window_in_before ns is ≡ Some (of_values (function_in ns is) c d)
   unfolding window_in_before
   then-in is c d p q x y z = rw (p, q, x, y, z)
 
-  window-in : (is : List ℕ) (w : Window) → window_in_before ns is ≡ some w → steps.window_in ns is ≡ some (scaled_window w)
+  window-in : (is : List ℕ) (w : Window) → window_in_before ns is ≡ Some w → steps.window_in ns is ≡ Some (scaled_window w)
   unfolding window_in_before
   window-in is w e =
       let c = need-some (find_vr ns Tags.WindowCenter DS is) _ e in
@@ -91,17 +89,17 @@ module _ (ns : List Node) where
       let b = and_both (is_number o.center) (is_number o.width && is_function (function_in ns is)) k.0 in
       let e = and_both (is_number o.width) (is_function (function_in ns is)) b.1 in
       let same : o ≡ w = cc k.1 in
-      now-in is c.0 d.0 c.1.0 d.1.0 b.0 e.0 e.1 ∙ ap (λ (v : Window). some (scaled_window v)) same
+      now-in is c.0 d.0 c.1.0 d.1.0 b.0 e.0 e.1 ∙ ap (λ (v : Window). Some (scaled_window v)) same
 
-  window_on_lem : (stored : ℕ) (o : Num) (w : Window) → window_on_before ns stored o ≡ some w → steps.window_on ns stored o ≡ some (scaled_window w)
+  window_on_lem : (stored : ℕ) (o : Option ℕ) (w : Window) → window_on_before ns stored o ≡ Some w → steps.window_on ns stored o ≡ Some (scaled_window w)
   window_on_lem stored None w e =
       let same : full_window_before stored ≡ w = cc in
-      ap some (same_full stored ∙ ap scaled_window same)
-  window_on_lem stored (Is g) w e =
+      ap Some (same_full stored ∙ ap scaled_window same)
+  window_on_lem stored (Some g) w e =
       let j = need-some (the_item ns g) _ e in
       rw j.1.0 (window-in (inside ns j.0) w j.1.1)
 
-  window-for : (f stored : ℕ) (w : Window) → window_for_before ns f stored ≡ some w → steps.window_for ns f stored ≡ some (scaled_window w)
+  window-for : (f stored : ℕ) (w : Window) → window_for_before ns f stored ≡ Some w → steps.window_for ns f stored ≡ Some (scaled_window w)
   unfolding window_for_before steps.window_for
   window-for f stored w e =
       let o = then_some (group_for ns f Tags.FrameVOILUTSequence) (window_on_before ns stored) e in
@@ -127,15 +125,15 @@ module _ (g : Geometry) (v : List ℕ) (f : ℕ) (w : Window) (inverse : Bool) w
 -- ---- The steps
 
 module _ (ns : List Node) (f : ℕ) where
-  to-picture : (g : Geometry) (v : List ℕ) (m : Mask) (w : Window) (inverse : Bool) → geometry_of ns ≡ some g → pixels_of ns ≡ some v
+  to-picture : (g : Geometry) (v : List ℕ) (m : Mask) (w : Window) (inverse : Bool) → geometry_of ns ≡ Some g → pixels_of ns ≡ Some v
       → is_frame g v f ≡ true
-      → mask_for ns f ≡ some m → window_for_before ns f g.stored ≡ some w → inverse_of ns ≡ some inverse
+      → mask_for ns f ≡ Some m → window_for_before ns f g.stored ≡ Some w → inverse_of ns ≡ Some inverse
       → steps.steps_of ns f ≡ picture_by_before g v f w inverse m
   unfolding steps.steps_of
   to-picture g v m w inverse eg ev ef em ew ei =
       rw (eg, ev, ef, em, window-for ns f g.stored w ew, ei) (same-picture g v f w inverse m)
 
-  pub drawn : (p : Picture) → steps_of_before ns f ≡ some p → steps.steps_of ns f ≡ some p
+  pub drawn : (p : Picture) → steps_of_before ns f ≡ Some p → steps.steps_of ns f ≡ Some p
   unfolding steps_of_before
   drawn p e =
       let g = then_some (geometry_of ns) _ e in
@@ -147,7 +145,7 @@ module _ (ns : List Node) (f : ℕ) where
       to-picture g.0 v.0 m.0 w.0 i.0 g.1.0 v.1.0 k.0 m.1.0 w.1.0 i.1.0 ∙ i.1.1
 
   -- Where each frame has a window, the steps give the same altogether.
-  same-steps : ((stored : ℕ) → (w : Window) × (window_for_before ns f stored ≡ some w)) → steps.steps_of ns f ≡ steps_of_before ns f
+  same-steps : ((stored : ℕ) → (w : Window) × (window_for_before ns f stored ≡ Some w)) → steps.steps_of ns f ≡ steps_of_before ns f
   unfolding steps_of_before steps.steps_of
   same-steps has =
       then_same (geometry_of ns) _ _ (λ g.
@@ -155,7 +153,7 @@ module _ (ns : List Node) (f : ℕ) where
       check-same (is_frame g v f) _ _
       (then_same (mask_for ns f) _ _ (λ m. by-window g v m (has g.stored)))))
     where
-      by-window : (g : Geometry) (v : List ℕ) (m : Mask) → (w : Window) × (window_for_before ns f g.stored ≡ some w)
+      by-window : (g : Geometry) (v : List ℕ) (m : Mask) → (w : Window) × (window_for_before ns f g.stored ≡ Some w)
           → then (steps.window_for ns f g.stored) (λ w. then (inverse_of ns) (λ inverse. steps.picture_by g v f w inverse m))
           ≡ then (window_for_before ns f g.stored) (λ w. then (inverse_of ns) (λ inverse. picture_by_before g v f w inverse m))
       by-window g v m h =
@@ -164,7 +162,7 @@ module _ (ns : List Node) (f : ℕ) where
           (λ inverse. picture_by_before g v f h.0 inverse m) (λ inverse. same-picture g v f h.0 inverse m))
 
   -- Where rule 30 held there is one.
-  has_in : (is : List ℕ) → has_window_before ns is ≡ true → (w : Window) × (window_in_before ns is ≡ some w)
+  has_in : (is : List ℕ) → has_window_before ns is ≡ true → (w : Window) × (window_in_before ns is ≡ Some w)
   unfolding has_window_before is_window_before all_decimals_before all_widths_before
   has_in is e =
       let c = holds-is (find_vr ns Tags.WindowCenter DS is) _ e in
@@ -181,24 +179,24 @@ module _ (ns : List Node) (f : ℕ) where
       ≡ true = width-number least (decimal_of_before (value_of y 0)) (all_first (λ v. is_width least (decimal_of_before v)) y b.1) in
       (of_values ns (function_in ns is) c.0 d.0, then-in ns is c.0 d.0 c.1.0 d.1.0 p q k.0)
 
-  item-window : (stored g j : ℕ) (w : Window) → the_item ns g ≡ Is j → window_in_before ns (inside ns j) ≡ some w
-      → window_on_before ns stored (Is g) ≡ some w
+  item-window : (stored g j : ℕ) (w : Window) → the_item ns g ≡ Some j → window_in_before ns (inside ns j) ≡ Some w
+      → window_on_before ns stored (Some g) ≡ Some w
   item-window stored g j w e h = rw e h
 
-  has_on : (stored : ℕ) (o : Num) → if_present o (is_voi_before ns) ≡ true → (w : Window) × (window_on_before ns stored o ≡ some w)
+  has_on : (stored : ℕ) (o : Option ℕ) → if_present o (is_voi_before ns) ≡ true → (w : Window) × (window_on_before ns stored o ≡ Some w)
   unfolding is_voi_before
   has_on stored None e = (full_window_before stored, refl)
-  has_on stored (Is g) e =
+  has_on stored (Some g) e =
       let j = holds-is (the_item ns g) (λ i. has_window_before ns (inside ns i)) e in
       let w = has_in (inside ns j.0) j.1.1 in
       (w.0, item-window stored g j.0 w.0 j.1.0 w.1)
 
-  group-window : (stored : ℕ) (o : Num) (w : Window) → group_for ns f Tags.FrameVOILUTSequence ≡ some o → window_on_before ns stored o ≡ some w
-      → window_for_before ns f stored ≡ some w
+  group-window : (stored : ℕ) (o : Option ℕ) (w : Window) → group_for ns f Tags.FrameVOILUTSequence ≡ Some o → window_on_before ns stored o ≡ Some w
+      → window_for_before ns f stored ≡ Some w
   unfolding window_for_before
   group-window stored o w e h = rw e h
 
-  has-window : rule30_before ns f ≡ true → (stored : ℕ) → (w : Window) × (window_for_before ns f stored ≡ some w)
+  has-window : rule30_before ns f ≡ true → (stored : ℕ) → (w : Window) × (window_for_before ns f stored ≡ Some w)
   unfolding rule30_before item30_before
   has-window e stored =
       let a = at-items ns f (item30_before ns) e in

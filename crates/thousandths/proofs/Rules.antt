@@ -1,4 +1,5 @@
 -- Where rule 30 held as it was, it holds.
+use Rattle.std.specs.Prelude.{Option, Some, None}
 use mathlib.Core.Path.{◌≡◌, refl, ap, ◌∙◌}
 use mathlib.Core.Bool.{Bool, true, false, cond, ◌&&◌}
 use mathlib.Core.List.{List, [], ◌∷◌}
@@ -45,33 +46,33 @@ all_more p q h (v ∷ vs) e =
 
 -- ---- Numbers and widths
 
-pub number-scaled : (s : Signed) → is_number s ≡ true → is_number (scaled s) ≡ true
-number-scaled (signed.Plus n) e = refl
-number-scaled (signed.Minus n) e = refl
-number-scaled signed.None e = e
+pub number-scaled : (s : Option Signed) → is_number s ≡ true → is_number (scaled s) ≡ true
+number-scaled (Some (signed.Plus n)) e = refl
+number-scaled (Some (signed.Minus n)) e = refl
+number-scaled None e = e
 
-least-scaled : (f : Function) → current.least_width f ≤ factor * least_width_before f
-least-scaled function.Linear = omega arith
-least-scaled function.Exact = omega arith
-least-scaled function.Other = omega arith
+least-scaled : (f : Option Function) → current.least_width f ≤ factor * least_width_before f
+least-scaled (Some function.Linear) = omega arith
+least-scaled (Some function.Exact) = omega arith
+least-scaled None = omega arith
 
-width-scaled : (f : Function) (s : Signed) → is_width (least_width_before f) s ≡ true → is_width (current.least_width f) (scaled s) ≡ true
-width-scaled f (signed.Plus n) e =
+width-scaled : (f : Option Function) (s : Option Signed) → is_width (least_width_before f) s ≡ true → is_width (current.least_width f) (scaled s) ≡ true
+width-scaled f (Some (signed.Plus n)) e =
     le-leb (current.least_width f) (factor * n) (omega (arith, least-scaled f, leb-true (least_width_before f) n e))
-width-scaled f (signed.Minus n) e = e
-width-scaled f signed.None e = e
+width-scaled f (Some (signed.Minus n)) e = e
+width-scaled f None e = e
 
 number-now : (v : List ℕ) → is_number (decimal_of_before v) ≡ true → is_number (current.decimal_of v) ≡ true
 number-now v e = ap is_number (numbers v e) ∙ number-scaled (decimal_of_before v) e
 
-width-now : (f : Function) (v : List ℕ) → is_width (least_width_before f) (decimal_of_before v) ≡ true
+width-now : (f : Option Function) (v : List ℕ) → is_width (least_width_before f) (decimal_of_before v) ≡ true
     → is_width (current.least_width f) (current.decimal_of v) ≡ true
 width-now f v e = ap (is_width (current.least_width f)) (numbers v (width-number (least_width_before f) (decimal_of_before v) e))
     ∙ width-scaled f (decimal_of_before v) e
 
 -- ---- Rule 30
 
-window-now : (f : Function) (c w : List ℕ) → is_window_before f c w ≡ true → rules.is_window f c w ≡ true
+window-now : (f : Option Function) (c w : List ℕ) → is_window_before f c w ≡ true → rules.is_window f c w ≡ true
 unfolding is_window_before rules.is_window all_decimals_before all_widths_before current.all_decimals current.all_widths
 window-now f c w e =
     let k = and_both (is_function f)

@@ -8,10 +8,10 @@
 --   steps give it the same one, masked or native and cell for cell.
 --   drawn: on any data set, accepted or not, the steps give now every picture that they gave then.
 -- Proved in proofs/Kept.
-use Rattle.std.specs.Prelude.{◌≡◌, true, List, ℕ, ◌+◌, ◌≤◌, ◌<◌}
-use Rattle.std.proofs.Math.Option.{some}
+use Rattle.std.specs.Prelude.{◌≡◌, true, List, ℕ, ◌+◌, ◌≤◌, ◌<◌, Some}
 use Rattle.basics.specs.Bytes.{IsBytes}
-use Rattle.dataset.specs.Reading.{Row, reading_of, read}
+use Rattle.dataset.specs.Reading.{reading_of, read}
+use Rattle.dataset.specs.declared.Row.{Row}
 use Rattle.value.specs.Number as current
 use Rattle.value.specs.Number.{is_number}
 use Rattle.verdict.specs.Verdict.{last_rule}
@@ -39,11 +39,11 @@ pub record IsAcceptedBefore (s : List ℕ) : Type 0 where
 -- The steps gave frame f a picture, and still give it.
 pub record DrawnAlike (ns : List Node) (f : ℕ) : Type 0 where
   pub p : Picture
-  pub before : steps_of_before ns f ≡ some p
-  pub after : steps.steps_of ns f ≡ some p
+  pub before : steps_of_before ns f ≡ Some p
+  pub after : steps.steps_of ns f ≡ Some p
 
 pub record Kept : Type 0 where
   pub numbers : (v : List ℕ) → is_number (decimal_of_before v) ≡ true → current.decimal_of v ≡ scaled (decimal_of_before v)
   pub accepted : (s : List ℕ) → IsAcceptedBefore s → IsAccepted s
   pub pictures : (s : List ℕ) → IsBytes s → IsAcceptedBefore s → (f : ℕ) → IsFrame s f → DrawnAlike (nodes_of s) f
-  pub drawn : (ns : List Node) (f : ℕ) (p : Picture) → steps_of_before ns f ≡ some p → steps.steps_of ns f ≡ some p
+  pub drawn : (ns : List Node) (f : ℕ) (p : Picture) → steps_of_before ns f ≡ Some p → steps.steps_of ns f ≡ Some p

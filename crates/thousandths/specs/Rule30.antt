@@ -1,5 +1,5 @@
 -- Rule 30 as it was, and the rule list with it in place of the present one.
-use Rattle.std.specs.Prelude.{ℕ, List, Bool, cond, ◌&&◌, length, eqb}
+use Rattle.std.specs.Prelude.{ℕ, List, Bool, cond, ◌&&◌, length, eqb, Option}
 use Rattle.value.specs.declared.Function.{Function}
 use Rattle.value.specs.Text.{values_of}
 use Rattle.value.specs.Words.{is_function}
@@ -15,7 +15,7 @@ use Rattle.thousandths.specs.Number.{all_decimals_before, least_width_before, al
 
 -- Frame VOI LUT (0028,9132), if present, one item; has Window Center (0028,1050) and Width (0028,1051) DS, equally many, each with the
 -- old form; VOI LUT Function (0028,1056) as it is; widths at least 1 with LINEAR, above 0 with LINEAR_EXACT.
-unfoldable pub is_window_before : Function → List ℕ → List ℕ → Bool
+unfoldable pub is_window_before : Option Function → List ℕ → List ℕ → Bool
 is_window_before f centers widths =
     is_function f
     && (eqb (length (values_of centers)) (length (values_of widths))

@@ -1,4 +1,5 @@
 -- What the digits that the code read come to, for each form of a number: a case for each answer of the code.
+use Rattle.std.specs.Prelude.{Some, None}
 use mathlib.Core.Path.{◌≡◌, refl, ◌∙◌}
 use Prim.Native.Nat.{ℕ, suc, ◌+◌, ◌-◌, ◌*◌, ◌^◌, ◌≤◌}
 use native.Mathlib.Nat.{pow-le-pow_right, mul-le-mul_left, le_trans}
@@ -8,9 +9,8 @@ use mathlib.Core.Bool.{Bool, true, false, cond, ◌||◌}
 use lib.ListN.{length, get_or, drop}
 use lib.Dec.{eqb}
 use borrow.Author.Tests.{eq-eqb, ne_eqb}
-use Rattle.value.specs.declared.Num.TheVariants as num
 use Rattle.value.specs.declared.Run.{Run}
-use Rattle.value.specs.Number.{digits_of, after_sign, is_minus, whole_of, decimals, run_of, exact_of, scaled_by, is_mark, exponent_of}
+use Rattle.value.specs.Number.{digits_of, after_sign, whole_of, decimals, run_of, exact_of, scaled_by, is_mark, exponent_of}
 use Rattle.value.specs.Number.{characters, end_of, point_by, size_of}
 use Rattle.value.specs.Internal.{DigitsRead}
 use Rattle.basics.proofs.Lists.{from_next, from_end}
@@ -27,15 +27,15 @@ module _ (limit start : ℕ) (s : List ℕ) (r : Run) (d : DigitsRead limit star
 -- ---- Digits alone
 
 module _ (limit : ℕ) (s : List ℕ) (r : Run) (d : DigitsRead limit 0 s r) where
-  pub whole-none : r.count ≡ length s → r.count ≡ 0 → whole_of limit s ≡ num.None
+  pub whole-none : r.count ≡ length s → r.count ≡ 0 → whole_of limit s ≡ None
   unfolding whole_of
   whole-none e z = rw (rest-none limit 0 s r d e, ← d.count, eq-eqb r.count 0 z)
 
-  pub whole_is : r.count ≡ length s → (r.count ≡ 0 → ⊥) → whole_of limit s ≡ num.Is r.number
+  pub whole_is : r.count ≡ length s → (r.count ≡ 0 → ⊥) → whole_of limit s ≡ Some r.number
   unfolding whole_of
   whole_is e z = rw (rest-none limit 0 s r d e, ← d.count, ne_eqb r.count 0 z, ← d.number)
 
-  pub whole-more : (r.count ≡ length s → ⊥) → whole_of limit s ≡ num.None
+  pub whole-more : (r.count ≡ length s → ⊥) → whole_of limit s ≡ None
   unfolding whole_of
   whole-more e = rw (rest_some limit 0 s r d e)
 
@@ -67,11 +67,11 @@ module _ (s : List ℕ) (r : Run) (d : DigitsRead (length s) 0 s r) where
   )
 
 module _ (count m after : ℕ) (s : List ℕ) where
-  pub end_none : count ≡ 0 → end_of count m after s ≡ num.None
+  pub end_none : count ≡ 0 → end_of count m after s ≡ None
   unfolding end_of
   end_none z = go s
     where
-      go : (l : List ℕ) → end_of count m after l ≡ num.None
+      go : (l : List ℕ) → end_of count m after l ≡ None
       go [] = rw (eq-eqb count 0 z)
       go (c ∷ l) = rw (eq-eqb count 0 z)
 
@@ -92,31 +92,15 @@ module _ (count m after : ℕ) (s : List ℕ) where
       go [] e p = absurd (e refl)
       go (c ∷ l) e p = rw (ne_eqb count 0 z, p)
 
-  pub end-other : (count ≡ 0 → ⊥) → (length s ≡ 0 → ⊥) → is_mark (get_or s 0 0) ≡ false → end_of count m after s ≡ num.None
+  pub end-other : (count ≡ 0 → ⊥) → (length s ≡ 0 → ⊥) → is_mark (get_or s 0 0) ≡ false → end_of count m after s ≡ None
   unfolding end_of
   end-other z e p = go s e p
     where
-      go : (l : List ℕ) → (length l ≡ 0 → ⊥) → is_mark (get_or l 0 0) ≡ false → end_of count m after l ≡ num.None
+      go : (l : List ℕ) → (length l ≡ 0 → ⊥) → is_mark (get_or l 0 0) ≡ false → end_of count m after l ≡ None
       go [] e p = absurd (e refl)
       go (c ∷ l) e p = rw (ne_eqb count 0 z, p)
 
 -- ---- A sign in front
-
-pub after-empty : (s : List ℕ) → length s ≡ 0 → after_sign s ≡ []
-after-empty [] e = refl
-after-empty (c ∷ s) e = absurd (omega arith)
-
-pub after_plus : (s : List ℕ) → (length s ≡ 0 → ⊥) → get_or s 0 0 ≡ 0x2B → after_sign s ≡ drop 1 s
-after_plus [] e p = absurd (e refl)
-after_plus (c ∷ s) e p = rw (eq-eqb c 0x2B p)
-
-pub after_minus : (s : List ℕ) → (length s ≡ 0 → ⊥) → (get_or s 0 0 ≡ 0x2B → ⊥) → get_or s 0 0 ≡ 0x2D → after_sign s ≡ drop 1 s
-after_minus [] e p q = absurd (e refl)
-after_minus (c ∷ s) e p q = rw (ne_eqb c 0x2B p, eq-eqb c 0x2D q)
-
-pub after_none : (s : List ℕ) → (length s ≡ 0 → ⊥) → (get_or s 0 0 ≡ 0x2B → ⊥) → (get_or s 0 0 ≡ 0x2D → ⊥) → after_sign s ≡ s
-after_none [] e p q = absurd (e refl)
-after_none (c ∷ s) e p q = rw (ne_eqb c 0x2B p, ne_eqb c 0x2D q)
 
 pub after-short : (s : List ℕ) → length (after_sign s) ≤ length s
 after-short [] = omega arith
@@ -125,14 +109,6 @@ after-short (c ∷ s) = go (eqb c 0x2B || eqb c 0x2D)
     go : (t : Bool) → length (cond t s (c ∷ s)) ≤ suc (length s)
     go true = omega arith
     go false = omega arith
-
-pub minus-empty : (s : List ℕ) → length s ≡ 0 → is_minus s ≡ false
-minus-empty [] e = refl
-minus-empty (c ∷ s) e = absurd (omega arith)
-
-pub minus-first : (s : List ℕ) → (length s ≡ 0 → ⊥) → is_minus s ≡ eqb (get_or s 0 0) 0x2D
-minus-first [] e = absurd (e refl)
-minus-first (c ∷ s) e = refl
 
 -- ---- Sixteen characters make a number of 64 bits
 

@@ -1,4 +1,5 @@
 -- The exact number m · 10^up / 10^down without the powers: a factor of ten at a time.
+use Rattle.std.specs.Prelude.{Some, None}
 use mathlib.Core.Path.{◌≡◌, refl, sym, ap, ◌∙◌}
 use Prim.Native.Nat.{ℕ, zero, suc, ◌+◌, ◌-◌, ◌*◌, ◌/◌, ◌%◌, ◌^◌, ◌≤◌, ◌<◌}
 use native.Mathlib.Omega.{arith}
@@ -8,13 +9,12 @@ use mathlib.Core.Bool.{Bool, true, false}
 use lib.Dec.{eqb}
 use lib.Pow.{pow-add}
 use borrow.Author.Tests.{eq-eqb, ne_eqb, eqb-true, eqb-false, lt-ltb, le-ltb}
-use Rattle.value.specs.declared.Num.TheVariants as num
 use Rattle.value.specs.Number.{size_limit, if_small, wholly, exact_of}
 
-pub within-is : (n : ℕ) → n < size_limit → if_small n ≡ num.Is n
+pub within-is : (n : ℕ) → n < size_limit → if_small n ≡ Some n
 within-is n h = rw (lt-ltb n size_limit h)
 
-pub within-large : (n : ℕ) → size_limit ≤ n → if_small n ≡ num.None
+pub within-large : (n : ℕ) → size_limit ≤ n → if_small n ≡ None
 within-large n h = rw (le-ltb n size_limit h)
 
 -- ---- Multiplying
@@ -22,13 +22,13 @@ within-large n h = rw (le-ltb n size_limit h)
 power-one : (e : ℕ) → 0 < 10 ^ e
 power-one e = one-le-pow e 10 (omega arith)
 
-pub grown : (n left : ℕ) → 0 < left → 10 * n * 10 ^ (left - 1) ≡ n * 10 ^ left
-grown n zero h = absurd (omega arith)
-grown n (suc l) h =
-    let d : suc l - 1 ≡ l = omega arith in
-    rw (d, pow-succ' 10 l) (ap (λ (x : ℕ). x * 10 ^ l) (mul_comm 10 n) ∙ mul_assoc n 10 (10 ^ l))
+-- After k of e turns, one turn more.
+pub grown : (n e k : ℕ) → k < e → n * 10 * 10 ^ (e - (k + 1)) ≡ n * 10 ^ (e - k)
+grown n e k h =
+    let d : e - k ≡ suc (e - (k + 1)) = omega arith in
+    rw (d, pow-succ' 10 (e - (k + 1))) (mul_assoc n 10 (10 ^ (e - (k + 1))))
 
-pub too_large_lem : (n left : ℕ) → size_limit ≤ n → if_small (n * 10 ^ left) ≡ num.None
+pub too_large_lem : (n left : ℕ) → size_limit ≤ n → if_small (n * 10 ^ left) ≡ None
 too_large_lem n left h = within-large (n * 10 ^ left) (le_trans h (le-mul_of_pos_right n (power-one left)))
 
 pub times-one : (n left : ℕ) → left ≤ 0 → n * 10 ^ left ≡ n
@@ -65,15 +65,16 @@ same-zero k r h = go (eqb r 0) refl
 pub wholly-factor : (k n m : ℕ) → 0 < k → wholly (k * n) (k * m) ≡ wholly n m
 wholly-factor k n m h = rw (mod-factor k n m h, mul-div-mul_left {m = k} n m h, same-zero k (n % m) h)
 
-pub shrunk : (n left : ℕ) → 0 < left → n % 10 ≡ 0 → wholly n (10 ^ left) ≡ wholly (n / 10) (10 ^ (left - 1))
-shrunk n zero h e = absurd (omega arith)
-shrunk n (suc l) h e =
-    let d : suc l - 1 ≡ l = omega arith in
+-- After k of e turns, one turn more.
+pub shrunk : (n e k : ℕ) → k < e → n % 10 ≡ 0 → wholly n (10 ^ (e - k)) ≡ wholly (n / 10) (10 ^ (e - (k + 1)))
+shrunk n e k h z =
+    let l : ℕ = e - (k + 1) in
+    let d : e - k ≡ suc l = omega arith in
     let q : n ≡ 10 * (n / 10) = omega arith in
     rw (d, pow-succ' 10 l) (ap (λ (x : ℕ). wholly x (10 * 10 ^ l)) q ∙ wholly-factor 10 (n / 10) (10 ^ l) (omega arith))
 
 -- What ten does not divide, no higher power divides.
-pub no-multiple : (n left : ℕ) → 0 < left → (n % 10 ≡ 0 → ⊥) → wholly n (10 ^ left) ≡ num.None
+pub no-multiple : (n left : ℕ) → 0 < left → (n % 10 ≡ 0 → ⊥) → wholly n (10 ^ left) ≡ None
 no-multiple n zero h e = absurd (omega arith)
 no-multiple n (suc l) h e = rw (pow-succ' 10 l, ne_eqb (n % (10 * 10 ^ l)) 0 (λ z. e (divides z)))
   where
@@ -85,7 +86,7 @@ no-multiple n (suc l) h e = rw (pow-succ' 10 l, ne_eqb (n % (10 * 10 ^ l)) 0 (λ
 
 -- ---- The exact number
 
-pub exact-zero : (m up down : ℕ) → m ≡ 0 → exact_of m up down ≡ num.Is 0
+pub exact-zero : (m up down : ℕ) → m ≡ 0 → exact_of m up down ≡ Some 0
 unfolding exact_of
 exact-zero m up down e =
     let z : m * 10 ^ up ≡ 0 = ap (λ (x : ℕ). x * 10 ^ up) e ∙ omega arith in

@@ -6,12 +6,12 @@ use native.Mathlib.Omega.{arith}
 use native.Mathlib.Nat.{mul_assoc, mul_comm, mul-le-mul_right, le_trans, one-le-pow, le-mul_of_pos_right, pow-succ'}
 use mathlib.Core.List.{List, [], ◌∷◌}
 use mathlib.Core.Bool.{Bool, true, false}
-use lib.ListN.{length, get_or, drop}
+use lib.ListN.{length, drop, length-drop}
 use lib.Dec.{leb}
-use borrow.Author.Tests.{le-leb, lt-leb, leb-true}
+use borrow.Author.Tests.{leb-true}
 use Rattle.value.specs.Number.{Digits, is_digit, digits_of}
 use Rattle.value.specs.Internal.{DigitsRead}
-use Rattle.basics.proofs.Lists.{from_next, from_end}
+use Rattle.basics.proofs.Lists.{from_next}
 use Rattle.basics.proofs.Tests.{and_both}
 
 -- What is read where no digit follows.
@@ -36,50 +36,40 @@ digits-full : (n k : ℕ) (s : List ℕ) → digits_of zero n k s ≡ stopped n 
 unfolding digits_of
 digits-full n k s = refl
 
--- ---- Along a list
+-- ---- One step of the code
 
-module _ (s : List ℕ) (i left n k : ℕ) where
-  pub next-digit : i < length s → (left ≡ 0 → ⊥) → 0x30 ≤ get_or s i 0 → get_or s i 0 ≤ 0x39 →
-      digits_of left n k (drop i s) ≡ digits_of (left - 1) (10 * n + (get_or s i 0 - 0x30)) (k + 1) (drop (i + 1) s)
-  next-digit h p q r = ap (digits_of left n k) (from_next s i h) ∙ by_left left p
-    where
-      is : is_digit (get_or s i 0) ≡ true
-      is = rw (le-leb 0x30 (get_or s i 0) q, le-leb (get_or s i 0) 0x39 r)
+-- A digit more, where `later` digits may still come after it.
+pub next-digit : (left later n k c : ℕ) (s : List ℕ) → later + 1 ≡ left → true ≡ is_digit c
+    → digits_of left n k (c ∷ s) ≡ digits_of later (10 * n + (c - 0x30)) (k + 1) s
+next-digit left later n k c s h e = let d : left ≡ suc later = omega arith in rw d (digits-go later n k c s (sym e))
 
-      by_left : (l : ℕ) → (l ≡ 0 → ⊥)
-          → digits_of l n k (get_or s i 0 ∷ drop (i + 1) s) ≡ digits_of (l - 1) (10 * n + (get_or s i 0 - 0x30)) (k + 1) (drop (i + 1) s)
-      by_left zero o = absurd (o refl)
-      by_left (suc l) o = let d : suc l - 1 ≡ l = omega arith in rw d (digits-go l n k (get_or s i 0) (drop (i + 1) s) is)
+-- Enough digits, or no byte left.
+pub digits-end : (left n k : ℕ) (s : List ℕ) → (0 < left → length s ≡ 0) → digits_of left n k s ≡ stopped n k s
+digits-end zero n k s h = digits-full n k s
+digits-end (suc left) n k [] h = digits-none (suc left) n k
+digits-end (suc left) n k (c ∷ s) h = absurd (omega (arith, h (omega arith)))
 
-  pub enough : left ≡ 0 → digits_of left n k (drop i s) ≡ stopped n k (drop i s)
-  enough e = rw e (digits-full n k (drop i s))
+-- Another byte.
+pub no-digit : (left n k c : ℕ) (s : List ℕ) → false ≡ is_digit c → digits_of left n k (c ∷ s) ≡ stopped n k (c ∷ s)
+no-digit zero n k c s e = digits-full n k (c ∷ s)
+no-digit (suc left) n k c s e = digits-stop left n k c s (sym e)
 
-  pub all_digits : length s ≤ i → digits_of left n k (drop i s) ≡ stopped n k (drop i s)
-  all_digits h = rw (from_end s i h) (digits-none left n k)
+-- The place of what follows a byte.
+pub next-place : (s l : List ℕ) (i c : ℕ) → c ∷ l ≡ drop i s → (l ≡ drop (i + 1) s) × (i < length s)
+next-place s l i c e =
+    let h : i < length s = omega (arith, ap length e, length-drop i s) in
+    let f = from_next s i h in
+    (cc, h)
 
-  no_digit : i < length s → is_digit (get_or s i 0) ≡ false → digits_of left n k (drop i s) ≡ stopped n k (drop i s)
-  no_digit h e = ap (digits_of left n k) (from_next s i h) ∙ by_left left ∙ ap (stopped n k) (sym (from_next s i h))
-    where
-      by_left : (l : ℕ) → digits_of l n k (get_or s i 0 ∷ drop (i + 1) s) ≡ stopped n k (get_or s i 0 ∷ drop (i + 1) s)
-      by_left zero = digits-full n k (get_or s i 0 ∷ drop (i + 1) s)
-      by_left (suc l) = digits-stop l n k (get_or s i 0) (drop (i + 1) s) e
-
-  pub below-digits : i < length s → get_or s i 0 < 0x30 → digits_of left n k (drop i s) ≡ stopped n k (drop i s)
-  below-digits h p = no_digit h (rw (lt-leb 0x30 (get_or s i 0) p))
-
-  pub above-digits : i < length s → 0x30 ≤ get_or s i 0 → 0x39 < get_or s i 0 → digits_of left n k (drop i s) ≡ stopped n k (drop i s)
-  above-digits h q p = no_digit h (rw (le-leb 0x30 (get_or s i 0) q, lt-leb (get_or s i 0) 0x39 p))
-
--- What the code answers where it stops at i.
-pub read_at : (limit start : ℕ) (s : List ℕ) (left n i : ℕ) → digits_of left n i (drop i s) ≡ digits_of limit start 0 s →
-    digits_of left n i (drop i s) ≡ stopped n i (drop i s) → i ≤ length s → i ≤ limit
-    → DigitsRead limit start s (record { number = n; count = i })
-read_at limit start s left n i e t w f =
-    let d : stopped n i (drop i s) ≡ digits_of limit start 0 s = sym t ∙ e in
+-- What the code answers where it stops, with the bytes l left.
+pub read_at : (limit start left n i : ℕ) (s l : List ℕ) → digits_of left n i l ≡ digits_of limit start 0 s → digits_of left n i l ≡ stopped n i l
+    → l ≡ drop i s → i ≤ length s → i ≤ limit → DigitsRead limit start s (record { number = n; count = i })
+read_at limit start left n i s l e t p w f =
+    let d : stopped n i l ≡ digits_of limit start 0 s = sym t ∙ e in
     record {
       number = ap (λ (x : Digits). x.number) d;
       count = ap (λ (x : Digits). x.count) d;
-      rest = ap (λ (x : Digits). x.rest) (sym d);
+      rest = ap (λ (x : Digits). x.rest) (sym d) ∙ p;
       within = w;
       few = f;
     }
@@ -96,10 +86,9 @@ larger n x l h =
     let t = mul-le-mul_right (10 ^ l) m in
     rw (pow-succ' 10 l) (rw (regroup (n + 1) (10 ^ l)) at t)
 
--- With `left` digits to come, it stays within a bound.
-pub next-size : (n x left most : ℕ) → (left ≡ 0 → ⊥) → x ≤ 9 → (n + 1) * 10 ^ left ≤ most → (10 * n + x + 1) * 10 ^ (left - 1) ≤ most
-next-size n x zero most p h b = absurd (p refl)
-next-size n x (suc l) most p h b = let d : suc l - 1 ≡ l = omega arith in rw d (le_trans (larger n x l h) b)
+-- With `later` digits to come, it stays within a bound.
+pub next-size : (n x left later most : ℕ) → later + 1 ≡ left → x ≤ 9 → (n + 1) * 10 ^ left ≤ most → (10 * n + x + 1) * 10 ^ later ≤ most
+next-size n x left later most d h b = let e : left ≡ suc later = omega arith in le_trans (larger n x later h) (rw e at b)
 
 pub bounded : (n left most : ℕ) → (n + 1) * 10 ^ left ≤ most → n < most
 bounded n left most b = omega (arith, b, le-mul_of_pos_right (n + 1) (one-le-pow left 10 (omega arith)))

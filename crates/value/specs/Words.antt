@@ -1,9 +1,9 @@
 -- Values that are compared with a word: each is single.
-use Rattle.std.specs.Prelude.{ℕ, Bool, true, false, cond, ◌&&◌, List}
+use Rattle.std.specs.Prelude.{ℕ, Bool, true, false, cond, ◌&&◌, List, Option, Some, None}
 use Rattle.basics.specs.Bytes.{same_bytes}
 use Rattle.value.specs.Text.{ascii, is_single, value_of, trim_end, trimmed}
 use Rattle.value.specs.declared.Function.{Function}
-use Rattle.value.specs.declared.Function.TheVariants.{Linear, Exact, Other}
+use Rattle.value.specs.declared.Function.TheVariants.{Linear, Exact}
 
 -- Value k of a CS, without outer spaces, is the word.
 unfoldable pub word_at : List ℕ → ℕ → List ℕ → Bool
@@ -18,10 +18,10 @@ unfoldable pub is_uid : List ℕ → List ℕ → Bool
 is_uid v uid = is_single v && same_bytes (trim_end 0 (value_of v 0)) uid
 
 -- VOI LUT Function (0028,1056): LINEAR or LINEAR_EXACT. No other word is drawn.
-unfoldable pub function_of : List ℕ → Function
-function_of v = cond (is_word v (ascii "LINEAR")) Linear (cond (is_word v (ascii "LINEAR_EXACT")) Exact Other)
+unfoldable pub function_of : List ℕ → Option Function
+function_of v = cond (is_word v (ascii "LINEAR")) (Some Linear) (cond (is_word v (ascii "LINEAR_EXACT")) (Some Exact) None)
 
-abbrev pub is_function : Function → Bool
-is_function Linear = true
-is_function Exact = true
-is_function Other = false
+abbrev pub is_function : Option Function → Bool
+is_function (Some Linear) = true
+is_function (Some Exact) = true
+is_function None = false

@@ -1,5 +1,6 @@
 -- A possible verdict's fields are small: code and rule take 8 bits, the frame 16, the offset and the row count 32. Each of
 -- the three kinds of possible verdict bounds every field, and the code bounds the count.
+use Rattle.std.specs.Prelude.{Option, Some}
 use mathlib.Core.Path.{◌≡◌, subst}
 use mathlib.Core.Bool.{Bool, true, false, cond, ◌&&◌, ◌||◌}
 use mathlib.Core.Logic.{⊎_elim}
@@ -8,8 +9,6 @@ use native.Mathlib.Omega.{arith}
 use borrow.Author.Tests.{eqb-true, leb-true}
 use lib.Dec.{eqb, leb}
 use Rattle.basics.specs.Limits.{most_rows, last_frame}
-use Rattle.verdict.specs.declared.RowCount.{RowCount}
-use Rattle.verdict.specs.declared.RowCount.TheVariants.{Known}
 use Rattle.verdict.specs.declared.Verdict.{Verdict}
 use Rattle.verdict.specs.Verdict.{per_frame, frame_fits, last_rule, last_offset, alone, possible_plain, possible_refusal}
 use Rattle.verdict.specs.Verdict.{possible_breach, fields_fit, count_fits, rows_fit, possible}
@@ -91,7 +90,7 @@ pub possible-small : (v : Verdict) → possible v ≡ true → Small v
 possible-small v e = fields-small v (possible-parts v e).0
 
 -- A possible verdict's count, where it is known, is at most 134,217,728.
-pub possible-rows : (v : Verdict) (n : ℕ) → possible v ≡ true → v.rows ≡ Known n → n ≤ most_rows
+pub possible-rows : (v : Verdict) (n : ℕ) → possible v ≡ true → v.rows ≡ Some n → n ≤ most_rows
 unfolding count_fits
 possible-rows v n e k =
-    count_small (eqb v.code 0 || eqb v.code 9) n (subst (λ (r : RowCount). rows_fit v.code r ≡ true) k (possible-parts v e).1)
+    count_small (eqb v.code 0 || eqb v.code 9) n (subst (λ (r : Option ℕ). rows_fit v.code r ≡ true) k (possible-parts v e).1)

@@ -1,9 +1,7 @@
 -- Verdicts (document 01, "A slip records a verdict"; document 02, Q-13, "a verdict has the row count from now on"): which rules exist,
 -- which of them are asked at each frame, and which verdicts are possible.
-use Rattle.std.specs.Prelude.{ℕ, Bool, true, false, cond, ◌&&◌, ◌||◌, eqb, leb}
+use Rattle.std.specs.Prelude.{ℕ, Bool, true, false, cond, ◌&&◌, ◌||◌, eqb, leb, Option, Some, None}
 use Rattle.basics.specs.Limits.{largest, most_rows, last_frame}
-use Rattle.verdict.specs.declared.RowCount.{RowCount}
-use Rattle.verdict.specs.declared.RowCount.TheVariants.{Known, NotKnown}
 use Rattle.verdict.specs.declared.Verdict.{Verdict}
 
 -- The number of the last rule.
@@ -47,16 +45,16 @@ unfoldable pub count_fits : ℕ → ℕ → Bool
 count_fits code n = cond (eqb code 0 || eqb code 9) (leb n most_rows) (eqb n 0)
 
 -- A count that is not known goes with every code.
-abbrev pub rows_fit : ℕ → RowCount → Bool
-rows_fit code (Known n) = count_fits code n
-rows_fit code NotKnown = true
+abbrev pub rows_fit : ℕ → Option ℕ → Bool
+rows_fit code (Some n) = count_fits code n
+rows_fit code None = true
 
 unfoldable pub possible : Verdict → Bool
 possible v = fields_fit v && rows_fit v.code v.rows
 
-abbrev pub is_known : RowCount → Bool
-is_known (Known n) = true
-is_known NotKnown = false
+abbrev pub is_known : Option ℕ → Bool
+is_known (Some n) = true
+is_known None = false
 
 -- What a slip can record: a possible verdict whose row count is known.
 unfoldable pub writable : Verdict → Bool
@@ -64,4 +62,4 @@ writable v = possible v && is_known v.rows
 
 -- The same verdict with a row count that is not known.
 abbrev pub without_count : Verdict → Verdict
-without_count v = record { code = v.code; rule = v.rule; frame = v.frame; offset = v.offset; rows = NotKnown }
+without_count v = record { code = v.code; rule = v.rule; frame = v.frame; offset = v.offset; rows = None }

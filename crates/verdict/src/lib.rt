@@ -11,13 +11,6 @@ pub const LAST_RULE: usize = 39;
 // The largest offset of a refusal: the size limit.
 const LAST_OFFSET: usize = basics::LARGEST;
 
-// A row count, known or not: a slip of version 1 does not record it.
-#[derive(Clone, Copy)]
-pub enum RowCount {
-    Known(usize),
-    NotKnown,
-}
-
 // The numbers are wide enough to hold verdicts that are not possible.
 #[derive(Clone, Copy)]
 pub struct Verdict {
@@ -25,32 +18,25 @@ pub struct Verdict {
     pub rule: usize,
     pub frame: usize,
     pub offset: usize,
-    pub rows: RowCount,
+    // The row count, if it is known: a slip of version 1 does not record it.
+    pub rows: Option<usize>,
 }
 
 // Whether a rule is asked at each frame.
+#[tactic(auto, unfolding(crate::specs::Verdict::per_frame))]
 pub fn is_per_frame(rule: usize) -> bool
     ensures { result ≡ per_frame rule }
 {
-    if rule == 37 {
-        return true;
-    }
-    if rule == 39 {
-        return true;
-    }
-    if 27 <= rule { rule <= 30 } else { false }
+    (27 <= rule && rule <= 30) || rule == 37 || rule == 39
 }
 
 // Whether a frame fits a broken rule.
+#[tactic(auto, unfolding(crate::specs::Verdict::frame_fits))]
 fn frame_fits(rule: usize, frame: usize) -> bool
     ensures { result ≡ frame_fits rule frame }
 {
     if is_per_frame(rule) {
-        if 1 <= frame {
-            frame <= basics::LAST_FRAME
-        } else {
-            false
-        }
+        1 <= frame && frame <= basics::LAST_FRAME
     } else {
         frame == 0
     }
@@ -59,99 +45,61 @@ fn frame_fits(rule: usize, frame: usize) -> bool
 fn is_alone(v: Verdict) -> bool
     ensures { result ≡ alone v }
 {
-    if v.rule == 0 {
-        if v.frame == 0 { v.offset == 0 } else { false }
-    } else {
-        false
-    }
+    v.rule == 0 && v.frame == 0 && v.offset == 0
 }
 
 fn is_plain(v: Verdict) -> bool
     ensures { result ≡ possible_plain v }
 {
-    if v.code == 0 {
-        return is_alone(v);
-    }
-    if v.code == 7 {
-        return is_alone(v);
-    }
-    if v.code == 8 { is_alone(v) } else { false }
+    (v.code == 0 || v.code == 7 || v.code == 8) && is_alone(v)
 }
 
 fn is_refusal(v: Verdict) -> bool
     ensures { result ≡ possible_refusal v }
 {
-    if 1 <= v.code {
-        if v.code <= 6 {
-            if v.rule == 0 {
-                if v.frame == 0 {
-                    return v.offset <= LAST_OFFSET;
-                }
-            }
-        }
-    }
-    false
+    1 <= v.code && v.code <= 6 && v.rule == 0 && v.frame == 0 && v.offset <= LAST_OFFSET
 }
 
 fn is_breach(v: Verdict) -> bool
     ensures { result ≡ possible_breach v }
 {
-    if v.code == 9 {
-        if 1 <= v.rule {
-            if v.rule <= LAST_RULE {
-                if frame_fits(v.rule, v.frame) {
-                    return v.offset == 0;
-                }
-            }
-        }
-    }
-    false
+    v.code == 9
+        && 1 <= v.rule
+        && v.rule <= LAST_RULE
+        && frame_fits(v.rule, v.frame)
+        && v.offset == 0
 }
 
 // Whether code, rule, frame and offset fit together.
+#[tactic(auto, unfolding(crate::specs::Verdict::fields_fit))]
 fn fields_fit(v: Verdict) -> bool
     ensures { result ≡ fields_fit v }
 {
-    if is_plain(v) {
-        return true;
-    }
-    if is_refusal(v) {
-        return true;
-    }
-    is_breach(v)
+    is_plain(v) || is_refusal(v) || is_breach(v)
 }
 
 // Whether a number of rows fits a code.
+#[tactic(auto, unfolding(crate::specs::Verdict::count_fits))]
 fn count_fits(code: usize, n: usize) -> bool
     ensures { result ≡ count_fits code n }
 {
-    if code == 0 {
-        return n <= basics::MOST_ROWS;
-    }
-    if code == 9 {
+    if code == 0 || code == 9 {
         n <= basics::MOST_ROWS
     } else {
         n == 0
     }
 }
 
-fn rows_fit(code: usize, rows: RowCount) -> bool
+fn rows_fit(code: usize, rows: Option<usize>) -> bool
     ensures { result ≡ rows_fit code rows }
 {
-    match rows {
-        RowCount::Known(n) => count_fits(code, n),
-        RowCount::NotKnown => true,
-    }
+    rows.is_none_or(|n| count_fits(code, n))
 }
 
 // Whether a verdict is possible.
+#[tactic(auto, unfolding(crate::specs::Verdict::possible))]
 pub fn is_possible(v: Verdict) -> bool
     ensures { result ≡ possible v }
 {
-    if fields_fit(v) {
-        let rows = v.rows;
-        rows_fit(v.code, rows)
-    } else {
-        false
-    }
+    fields_fit(v) && rows_fit(v.code, v.rows)
 }

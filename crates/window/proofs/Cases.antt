@@ -1,11 +1,10 @@
 -- Sample cells: their window, whether 255 - y is shown, x, and the shade.
+use Rattle.std.specs.Prelude.{Some}
 use Prim.Native.Nat.{ℕ, ◌*◌}
 use mathlib.Core.Path.{◌≡◌, refl}
 use mathlib.Core.Bool.{Bool, true, false}
 use mathlib.Core.List.{List, [], ◌∷◌, map}
-use mathlib.Core.Option.{some}
 use lib.IntN.{pos}
-use Rattle.value.specs.declared.Num.TheVariants.{Is}
 use Rattle.value.specs.declared.Signed.TheVariants as signed
 use Rattle.value.specs.declared.Function.TheVariants.{Linear, Exact}
 use Rattle.value.specs.Number.{unit}
@@ -20,17 +19,17 @@ pub record Cell : Type 0 where
 
 -- Width 1 and centre 50; width 10 and centre 40.
 narrow : Window
-narrow = record { center = signed.Plus (50 * unit); width = signed.Plus (1 * unit); function = Linear }
+narrow = record { center = Some (signed.Plus (50 * unit)); width = Some (signed.Plus (1 * unit)); function = Some Linear }
 
 wide : Window
-wide = record { center = signed.Plus (40 * unit); width = signed.Plus (10 * unit); function = Linear }
+wide = record { center = Some (signed.Plus (40 * unit)); width = Some (signed.Plus (10 * unit)); function = Some Linear }
 
 abbrev cell : Window → Bool → ℕ → ℕ → Cell
 cell w i x s = record { window = w; inverse = i; x = x; shade = s }
 
 -- Width 10 and centre 40, exact: 35 gives 0, 36 gives floor((255 · 2 + 10) / 20) = 26, 40 gives 128, 45 gives 255.
 exact : Window
-exact = record { center = signed.Plus (40 * unit); width = signed.Plus (10 * unit); function = Exact }
+exact = record { center = Some (signed.Plus (40 * unit)); width = Some (signed.Plus (10 * unit)); function = Some Exact }
 
 pub samples : List Cell
 samples =
@@ -53,18 +52,18 @@ samples =
     ∷ []
 
 pub sample-shades : map (λ (c : Cell). shaded c.inverse (level_of c.window (pos c.x))) samples
-    ≡ map (λ (c : Cell). Is c.shade) samples
+    ≡ map (λ (c : Cell). Some c.shade) samples
 unfolding samples narrow wide exact full_window level_of shade_of
 sample-shades = refl
 
 -- 0 bits stored: a native x is 0 and a masked one 1/2, in the full window and in one of centre 0 and width 10.
 pub middle : Window
-middle = record { center = signed.Plus 0; width = signed.Plus (10 * unit); function = Linear }
+middle = record { center = Some (signed.Plus 0); width = Some (signed.Plus (10 * unit)); function = Some Linear }
 
-pub no_bits : map (λ (w : Window). level_of w (pos 0)) (full_window 0 ∷ middle ∷ []) ≡ (some (pos 0) ∷ some (pos 142) ∷ [])
+pub no_bits : map (λ (w : Window). level_of w (pos 0)) (full_window 0 ∷ middle ∷ []) ≡ (Some (pos 0) ∷ Some (pos 142) ∷ [])
 unfolding middle full_window level_of
 no_bits = refl
 
-pub no-bits-masked : map (λ (w : Window). level_half w (pos 0)) (full_window 0 ∷ middle ∷ []) ≡ (some (pos 255) ∷ some (pos 156) ∷ [])
+pub no-bits-masked : map (λ (w : Window). level_half w (pos 0)) (full_window 0 ∷ middle ∷ []) ≡ (Some (pos 255) ∷ Some (pos 156) ∷ [])
 unfolding middle full_window level_half
 no-bits-masked = refl

@@ -1,6 +1,6 @@
 -- The levels of a window: which case of step 6 applies, in naturals; no level lacks, and each is at most 255.
+use Rattle.std.specs.Prelude.{Option, Some, None}
 use mathlib.Core.Path.{◌≡◌, refl, sym, ap, ◌∙◌}
-use mathlib.Core.Option.{Option, some}
 use mathlib.Core.Bool.{Bool, true, false, cond, false≢true}
 use mathlib.Core.List.{List}
 use Prim.Native.Nat.{ℕ, zero, suc, ◌+◌, ◌*◌, ◌-◌, ◌/◌, ◌^◌, ◌≤◌, ◌<◌}
@@ -12,7 +12,6 @@ use lib.ListN.{length, get_or, set, length-set}
 use lib.Seq.{get_or-set_same, get_or-set_other}
 use lib.Signed.{le_z, lt_z}
 use borrow.Author.Tests.{ltb-true, ltb-false, lt-ltb, leb-true, leb-false}
-use Rattle.value.specs.declared.Num.TheVariants.{Is}
 use Rattle.value.specs.declared.Signed.{Signed}
 use Rattle.value.specs.declared.Signed.TheVariants as signed
 use Rattle.value.specs.declared.Function.{Function}
@@ -37,15 +36,15 @@ pub record Sizes (w : Window) : Type 0 where
   pub high : above w.center < size_limit
   pub low : below w.center < size_limit
 
-is_wide : (least : ℕ) (s : Signed) → is_width least s ≡ true → least ≤ above s
-is_wide least (signed.Plus n) e = leb-true least n e
-is_wide least (signed.Minus n) e = absurd (false≢true e)
-is_wide least signed.None e = absurd (false≢true e)
+is_wide : (least : ℕ) (s : Option Signed) → is_width least s ≡ true → least ≤ above s
+is_wide least (Some (signed.Plus n)) e = leb-true least n e
+is_wide least (Some (signed.Minus n)) e = absurd (false≢true e)
+is_wide least None e = absurd (false≢true e)
 
-off-least : (f : Function) → (taken_off f ≤ least_width f) × (0 < least_width f)
-off-least function.Linear = (omega arith, omega arith)
-off-least function.Exact = (omega arith, omega arith)
-off-least function.Other = (omega arith, omega arith)
+off-least : (f : Option Function) → (taken_off f ≤ least_width f) × (0 < least_width f)
+off-least (Some function.Linear) = (omega arith, omega arith)
+off-least (Some function.Exact) = (omega arith, omega arith)
+off-least None = (omega arith, omega arith)
 
 pub widths : (w : Window) → Ruled w → Widths w
 widths w r =
@@ -53,15 +52,15 @@ widths w r =
     let o = off-least w.function in
     record { wide = omega (arith, o.0, h); some = omega (arith, o.1, h) }
 
-above-small : (s : Signed) → SizeBelow size_limit s → above s < size_limit
-above-small (signed.Plus n) h = h
-above-small (signed.Minus n) h = omega arith
-above-small signed.None h = omega arith
+above-small : (s : Option Signed) → SizeBelow size_limit s → above s < size_limit
+above-small (Some (signed.Plus n)) h = h
+above-small (Some (signed.Minus n)) h = omega arith
+above-small None h = omega arith
 
-below-small : (s : Signed) → SizeBelow size_limit s → below s < size_limit
-below-small (signed.Plus n) h = omega arith
-below-small (signed.Minus n) h = h
-below-small signed.None h = omega arith
+below-small : (s : Option Signed) → SizeBelow size_limit s → below s < size_limit
+below-small (Some (signed.Plus n)) h = omega arith
+below-small (Some (signed.Minus n)) h = h
+below-small None h = omega arith
 
 pub sizes : (w : Window) → Drawable w → Sizes w
 sizes w d = record {
@@ -72,21 +71,21 @@ sizes w d = record {
 }
 
 -- A signed number as a difference; a width as a natural.
-pub signed-gap : (s : Signed) → Gap (integer s) (above s) (below s)
-signed-gap (signed.Plus n) = whole n
-signed-gap (signed.Minus zero) = whole 0
-signed-gap (signed.Minus (suc n)) = record { is = omega arith }
-signed-gap signed.None = whole 0
+pub signed-gap : (s : Option Signed) → Gap (integer s) (above s) (below s)
+signed-gap (Some (signed.Plus n)) = whole n
+signed-gap (Some (signed.Minus zero)) = whole 0
+signed-gap (Some (signed.Minus (suc n))) = record { is = omega arith }
+signed-gap None = whole 0
 
-width_is : (s : Signed) → 0 < above s → integer s ≡ pos (above s)
-width_is (signed.Plus n) h = refl
-width_is (signed.Minus n) h = absurd (omega arith)
-width_is signed.None h = absurd (omega arith)
+width_is : (s : Option Signed) → 0 < above s → integer s ≡ pos (above s)
+width_is (Some (signed.Plus n)) h = refl
+width_is (Some (signed.Minus n)) h = absurd (omega arith)
+width_is None h = absurd (omega arith)
 
-width-below : (s : Signed) → 0 < above s → below s ≡ 0
-width-below (signed.Plus n) h = refl
-width-below (signed.Minus n) h = absurd (omega arith)
-width-below signed.None h = absurd (omega arith)
+width-below : (s : Option Signed) → 0 < above s → below s ≡ 0
+width-below (Some (signed.Plus n)) h = refl
+width-below (Some (signed.Minus n)) h = absurd (omega arith)
+width-below None h = absurd (omega arith)
 
 -- ---- The third case
 
@@ -135,23 +134,23 @@ module _ {t c : ℤ} {p m a b : ℕ} (e w : ℕ) (t-is : Gap t p m) (c-is : Gap 
         ≡ pos ((255 * (u - n) + w - e) / (2 * (w - e)))
     third h = rw (dividend h, divisor)
 
-    pub level-none : u ≤ n → level_by (pos e) c (pos w) t ≡ some (pos 0)
+    pub level-none : u ≤ n → level_by (pos e) c (pos w) t ≡ Some (pos 0)
     level-none h = rw (first_holds h)
 
-    level-full : n < u → 2 * w < u - n + 2 * e → level_by (pos e) c (pos w) t ≡ some (pos 255)
+    level-full : n < u → 2 * w < u - n + 2 * e → level_by (pos e) c (pos w) t ≡ Some (pos 255)
     level-full h k = rw (first-fails h, second_holds h k)
 
-    level-part : n < u → u - n + 2 * e ≤ 2 * w → level_by (pos e) c (pos w) t ≡ some (pos ((255 * (u - n) + w - e) / (2 * (w - e))))
+    level-part : n < u → u - n + 2 * e ≤ 2 * w → level_by (pos e) c (pos w) t ≡ Some (pos ((255 * (u - n) + w - e) / (2 * (w - e))))
     level-part h k =
         let z : lt_z (pos 0) (pos 2 *ℤ (pos w -ℤ pos e)) ≡ true = ap (lt_z (pos 0)) divisor ∙ lt-ltb 0 (2 * (w - e)) (omega arith) in
-        rw (first-fails h, second-fails h k, z) (ap some (third h))
+        rw (first-fails h, second-fails h k, z) (ap Some (third h))
 
-    pub level-ramp : n < u → level_by (pos e) c (pos w) t ≡ some (pos (ramp_of e (u - n) w))
+    pub level-ramp : n < u → level_by (pos e) c (pos w) t ≡ Some (pos (ramp_of e (u - n) w))
     unfolding ramp_of
     level-ramp h = go (ltb (2 * w) (u - n + 2 * e)) refl
       where
         go : (b : Bool) → ltb (2 * w) (u - n + 2 * e) ≡ b
-            → level_by (pos e) c (pos w) t ≡ some (pos (cond b 255 ((255 * (u - n) + w - e) / (2 * (w - e)))))
+            → level_by (pos e) c (pos w) t ≡ Some (pos (cond b 255 ((255 * (u - n) + w - e) / (2 * (w - e)))))
         go true q = level-full h (ltb-true (2 * w) (u - n + 2 * e) q)
         go false q = level-part h (ltb-false (2 * w) (u - n + 2 * e) q)
 
@@ -160,12 +159,12 @@ module _ {t c : ℤ} {p m a b : ℕ} (e w : ℕ) (t-is : Gap t p m) (c-is : Gap 
 module _ (window : Window) (widths : Widths window) {x : ℤ} {p m : ℕ} (x-is : Gap x p m) where
   module _ (u n : ℕ) (u-is : u ≡ 2 * unit * p + 2 * below window.center + above window.width)
       (n-is : n ≡ 2 * unit * m + 2 * above window.center) where
-    pub window-none : u ≤ n → level_of window x ≡ some (pos 0)
+    pub window-none : u ≤ n → level_of window x ≡ Some (pos 0)
     unfolding level_of
     window-none h = rw (width_is window.width widths.some) (level-none (taken_off window.function) (above window.width)
         (times (2 * unit) x-is) (signed-gap window.center) widths.wide u n u-is n-is h)
 
-    pub window-ramp : n < u → level_of window x ≡ some (pos (ramp_of (taken_off window.function) (u - n) (above window.width)))
+    pub window-ramp : n < u → level_of window x ≡ Some (pos (ramp_of (taken_off window.function) (u - n) (above window.width)))
     unfolding level_of
     window-ramp h = rw (width_is window.width widths.some) (level-ramp (taken_off window.function) (above window.width)
         (times (2 * unit) x-is) (signed-gap window.center) widths.wide u n u-is n-is h)
@@ -173,7 +172,7 @@ module _ (window : Window) (widths : Widths window) {x : ℤ} {p m : ℕ} (x-is 
 -- A level that does not lack, and is at most 255.
 pub record Leveled (window : Window) (x : ℤ) : Type 0 where
   pub y : ℕ
-  pub is : level_of window x ≡ some (pos y)
+  pub is : level_of window x ≡ Some (pos y)
   pub small : y ≤ 255
 
 pub over : ℤ → ℕ
@@ -193,10 +192,10 @@ integer-gap (negsuc n) = record { is = omega arith }
 
 -- Where the width is no more than what the function takes off, the level goes from 0 to 255 at once.
 module _ {t c w : ℤ} {p m a b g h : ℕ} (e : ℕ) (t-is : Gap t p m) (c-is : Gap c a b) (w-is : Gap w g h) where
-  step-none : p + 2 * b + g ≤ m + 2 * a + h → level_by (pos e) c w t ≡ some (pos 0)
+  step-none : p + 2 * b + g ≤ m + 2 * a + h → level_by (pos e) c w t ≡ Some (pos 0)
   step-none l = rw (le_yes t-is (less (times 2 c-is) w-is) (omega arith))
 
-  step-full : g ≤ e + h → m + 2 * a + h < p + 2 * b + g → level_by (pos e) c w t ≡ some (pos 255)
+  step-full : g ≤ e + h → m + 2 * a + h < p + 2 * b + g → level_by (pos e) c w t ≡ Some (pos 255)
   step-full k l =
       rw (le-no t-is (less (times 2 c-is) w-is) (omega arith), lt_yes (less (plus (times 2 c-is) w-is) (whole (2 * e))) t-is (omega arith))
 
@@ -219,33 +218,33 @@ levelled window p m =
 
 module _ (window : Window) {t : ℤ} {p m : ℕ} (t-is : Gap t p m) where
   above-none : lowered window m < raised window p
-      → level_at window t ≡ some (pos (ramp_of (taken_off window.function) (raised window p - lowered window m) (above window.width)))
+      → level_at window t ≡ Some (pos (ramp_of (taken_off window.function) (raised window p - lowered window m) (above window.width)))
   unfolding raised lowered
   above-none l = go (leb (above window.width) (taken_off window.function)) refl
     where
       go : (s : Bool) → leb (above window.width) (taken_off window.function) ≡ s
           → level_at window t
-          ≡ some (pos (ramp_of (taken_off window.function) (raised window p - lowered window m) (above window.width)))
+          ≡ Some (pos (ramp_of (taken_off window.function) (raised window p - lowered window m) (above window.width)))
       go true q =
           let narrow = leb-true (above window.width) (taken_off window.function) q in
           step-full (taken_off window.function) t-is (signed-gap window.center) (signed-gap window.width) (omega (arith, narrow)) l
-          ∙ ap (λ (y : ℕ). some (pos y)) (sym
+          ∙ ap (λ (y : ℕ). Some (pos y)) (sym
           (ramp-full (taken_off window.function) (raised window p - lowered window m) (above window.width) narrow (omega arith)))
       go false q =
           let wide : taken_off window.function
           < above window.width = leb-false (above window.width) (taken_off window.function) q in
-          let none = width-below window.width (omega arith) in
+          let None = width-below window.width (omega arith) in
           rw (width_is window.width (omega arith))
           (level-ramp (taken_off window.function) (above window.width) t-is (signed-gap window.center) (omega arith)
-          (raised window p) (lowered window m) refl (omega (arith, none)) l)
+          (raised window p) (lowered window m) refl (omega (arith, None)) l)
 
-  pub level-is : level_at window t ≡ some (pos (levelled window p m))
+  pub level-is : level_at window t ≡ Some (pos (levelled window p m))
   unfolding levelled raised lowered
   level-is = go (leb (raised window p) (lowered window m)) refl
     where
       go : (s : Bool) → leb (raised window p) (lowered window m) ≡ s
           → level_at window t
-          ≡ some (pos (cond s 0 (ramp_of (taken_off window.function) (raised window p - lowered window m) (above window.width))))
+          ≡ Some (pos (cond s 0 (ramp_of (taken_off window.function) (raised window p - lowered window m) (above window.width))))
       go true e = step-none (taken_off window.function) t-is (signed-gap window.center) (signed-gap window.width)
           (leb-true (raised window p) (lowered window m) e)
       go false e = above-none (leb-false (raised window p) (lowered window m) e)
@@ -303,14 +302,14 @@ power-twice n =
 abbrev pub shade_number : Bool → ℕ → ℕ
 shade_number inverse y = cond inverse (255 - y) y
 
-pub shaded-is : (inverse : Bool) (y : ℕ) → y ≤ 255 → shaded inverse (some (pos y)) ≡ Is (shade_number inverse y)
+pub shaded-is : (inverse : Bool) (y : ℕ) → y ≤ 255 → shaded inverse (Some (pos y)) ≡ Some (shade_number inverse y)
 unfolding shade_of
 shaded-is true y h = ap cell_of (value (gap 255 y) h)
 shaded-is false y h = refl
 
 -- A place of the table, by its level.
 pub shade-is : (window : Window) (stored : ℕ) (inverse : Bool) (i y : ℕ) → y ≤ 255
-    → level_of window (pos (i + 2 ^ (stored - 1)) -ℤ pos (2 ^ stored - 1)) ≡ some (pos y)
+    → level_of window (pos (i + 2 ^ (stored - 1)) -ℤ pos (2 ^ stored - 1)) ≡ Some (pos y)
     → shade_at window stored inverse i ≡ shade_number inverse y
 unfolding shade_at
 shade-is window stored inverse i y h e = ap (λ (o : Option ℤ). number_or0 (shaded inverse o)) e ∙ ap number_or0 (shaded-is inverse y h)

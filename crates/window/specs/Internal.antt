@@ -1,5 +1,5 @@
 -- What contracts need beside the definition of a level: the windows that are drawn, and a table of shades.
-use Rattle.std.specs.Prelude.{ℕ, ◌+◌, ◌-◌, ◌*◌, ◌/◌, ◌^◌, ◌<◌, ◌≡◌, Bool, true, cond, List, ltb, length, get_or, pos, ◌-ℤ◌}
+use Rattle.std.specs.Prelude.{ℕ, ◌+◌, ◌-◌, ◌*◌, ◌/◌, ◌^◌, ◌<◌, ◌≡◌, Bool, true, cond, List, ltb, length, get_or, pos, ◌-ℤ◌, Option, Some, None}
 use Rattle.value.specs.declared.Signed.{Signed}
 use Rattle.value.specs.declared.Signed.TheVariants as signed
 use Rattle.value.specs.Words.{is_function}
@@ -21,15 +21,15 @@ pub record Drawable (w : Window) : Type 0 where
   pub narrow : SizeBelow size_limit w.width
 
 -- A signed number is the difference of these two.
-abbrev pub above : Signed → ℕ
-above (signed.Plus n) = n
-above (signed.Minus n) = 0
-above signed.None = 0
+abbrev pub above : Option Signed → ℕ
+above (Some (signed.Plus n)) = n
+above (Some (signed.Minus n)) = 0
+above None = 0
 
-abbrev pub below : Signed → ℕ
-below (signed.Plus n) = 0
-below (signed.Minus n) = n
-below signed.None = 0
+abbrev pub below : Option Signed → ℕ
+below (Some (signed.Plus n)) = 0
+below (Some (signed.Minus n)) = n
+below None = 0
 
 -- The level where d is 2ux - 2C + W and above 0, and e what the function takes off.
 unfoldable pub ramp_of : ℕ → ℕ → ℕ → ℕ

@@ -1,8 +1,7 @@
 // The window of a frame and its levels.
 #![tactic(auto)]
 
-ghost use Rattle.std.specs.Prelude.{◌≡◌, ◌-◌, ◌*◌, ◌^◌, ◌≤◌, ◌<◌, pos, ◌-ℤ◌};
-ghost use Rattle.std.proofs.Math.Option.{some};
+ghost use Rattle.std.specs.Prelude.{◌≡◌, ◌-◌, ◌*◌, ◌^◌, ◌≤◌, ◌<◌, pos, ◌-ℤ◌, Some};
 ghost use Rattle.value.specs.Number.{unit, size_limit, number_or0};
 ghost use Rattle.window.specs.Window.{full_window, taken_off, level_of, shaded};
 ghost use Rattle.window.specs.Internal.{Drawable, above, below, ramp_of, shade_places};
@@ -10,45 +9,42 @@ ghost use Rattle.window.specs.Internal.{Drawable, above, below, ramp_of, shade_p
 use value::{Function, Signed};
 
 // Centre and width, in units of a DS number, and the function.
-#[derive(Clone, Copy)]
+#[derive(Clone, Copy, PartialEq, Eq)]
 pub struct Window {
-    pub center: Signed,
-    pub width: Signed,
-    pub function: Function,
+    pub center: Option<Signed>,
+    pub width: Option<Signed>,
+    pub function: Option<Function>,
 }
 
 // How many places a table of levels has.
 pub const PLACES: usize = 131_072;
 
 // A signed number is above(s) - below(s).
-fn above(s: Signed) -> usize
+fn above(s: Option<Signed>) -> usize
     ensures { result ≡ above s }
 {
     match s {
-        Signed::Plus(n) => n,
-        Signed::Minus(n) => 0,
-        Signed::None => 0,
+        Some(Signed::Plus(n)) => n,
+        Some(Signed::Minus(_)) | None => 0,
     }
 }
 
-fn below(s: Signed) -> usize
+fn below(s: Option<Signed>) -> usize
     ensures { result ≡ below s }
 {
     match s {
-        Signed::Plus(n) => 0,
-        Signed::Minus(n) => n,
-        Signed::None => 0,
+        Some(Signed::Minus(n)) => n,
+        Some(Signed::Plus(_)) | None => 0,
     }
 }
 
 // What a function takes off the width.
-fn taken_off(f: Function) -> usize
+fn taken_off(f: Option<Function>) -> usize
     ensures { (result ≡ taken_off f) × (result ≤ unit) }
 {
     match f {
-        Function::Linear => value::UNIT,
-        Function::Exact => 0,
-        Function::Other => value::UNIT,
+        Some(Function::Exact) => 0,
+        Some(Function::Linear) | None => value::UNIT,
     }
 }
 
@@ -68,15 +64,12 @@ fn ramp(e: usize, up: usize, down: usize, w: usize) -> usize
 // The level of x = plus - minus.
 fn level(window: Window, plus: usize, minus: usize) -> usize
     requires { Drawable window × ((plus < 200000) × (minus < 200000)) }
-    ensures { (some (pos result) ≡ level_of window (pos plus -ℤ pos minus)) × (result ≤ 255) }
+    ensures { (Some (pos result) ≡ level_of window (pos plus -ℤ pos minus)) × (result ≤ 255) }
 {
-    let center = window.center;
-    let width = window.width;
-    let function = window.function;
-    let w = above(width);
-    let e = taken_off(function);
-    let up = 2 * value::UNIT * plus + 2 * below(center) + w;
-    let down = 2 * value::UNIT * minus + 2 * above(center);
+    let w = above(window.width);
+    let e = taken_off(window.function);
+    let up = 2 * value::UNIT * plus + 2 * below(window.center) + w;
+    let down = 2 * value::UNIT * minus + 2 * above(window.center);
     if up <= down { 0 } else { ramp(e, up, down, w) }
 }
 
@@ -85,11 +78,7 @@ pub fn power(n: usize) -> usize
     requires { n ≤ 17 }
     ensures { (result ≡ 2 ^ n) × ((1 ≤ result) × (result ≤ shade_places)) }
 {
-    let mut r: usize = 1;
-    for i in 0..n {
-        r = 2 * r;
-    }
-    r
+    1 << n
 }
 
 // The window of a frame that names none.
@@ -99,9 +88,9 @@ pub fn full_window(stored: usize) -> Window
 {
     let full = value::UNIT * power(stored);
     Window {
-        center: Signed::Plus(full / 2),
-        width: Signed::Plus(full),
-        function: Function::Linear,
+        center: Some(Signed::Plus(full / 2)),
+        width: Some(Signed::Plus(full)),
+        function: Some(Function::Linear),
     }
 }
 

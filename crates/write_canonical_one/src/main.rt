@@ -7,44 +7,40 @@ ghost use Rattle.dataset.specs.Answer.{width};
 ghost use Rattle.canonical.specs.Answer.{canonical_of, target_of};
 ghost use Rattle.write_canonical_one.specs.Internal.{Held, Roomy};
 
-use canonical::CanonicalAnswer;
+use canonical::{CanonicalError, Written};
+use dataset::ReadError;
 use printing::{print_code, print_unread};
 use room::{input, large_buffer, row_buffer};
 use std::io;
 use std::io::Write;
 
 // Writes the canonical form, with room for seven numbers for each 8 bytes and a target as long as the data set: both suffice.
-fn write_roomy(bytes: &[u8], rows: &mut [u32], target: &mut [u8]) -> CanonicalAnswer
+fn write_roomy(bytes: &[u8], rows: &mut [u32], target: &mut [u8]) -> Result<Written, CanonicalError>
     requires { (width * length bytes.now ≤ 8 * length rows.old) × (length bytes.now ≤ length target.old) }
     ensures value { result ≡ canonical_of bytes.now rows.old target.old }
     ensures target_after { target.new ≡ target_of bytes.now rows.old target.old }
     ensures held { Held result target.new }
     ensures roomy { Roomy result }
 {
-    canonical::knows_bytes(bytes);
     canonical::write_canonical(bytes, rows, target)
-}
-
-fn print_form<W: Write>(to: &mut W, target: &[u8], size: usize) -> io::Result<()>
-    requires { size ≤ length target.now }
-{
-    to.write_all(&target[..size])
 }
 
 fn print_answer<W: Write, E: Write>(
     to: &mut W,
     errors: &mut E,
-    answer: CanonicalAnswer,
+    answer: Result<Written, CanonicalError>,
     target: &[u8],
 ) -> io::Result<()>
     requires { Held answer target.now }
 {
     match answer {
-        CanonicalAnswer::Done(_, size) => print_form(to, target, size),
-        CanonicalAnswer::Refused(code, offset) => print_unread(errors, code, offset),
-        CanonicalAnswer::TooLarge => print_code(errors, 7),
-        CanonicalAnswer::NoRoom => print_code(errors, 8),
-        CanonicalAnswer::NoTargetRoom(_) => print_code(errors, 21),
+        Ok(written) => to.write_all(&target[..written.bytes]),
+        Err(CanonicalError::Unread(ReadError::Refused(refusal))) => {
+            print_unread(errors, refusal.fault.code(), refusal.offset)
+        }
+        Err(CanonicalError::Unread(ReadError::TooLarge)) => print_code(errors, 7),
+        Err(CanonicalError::Unread(ReadError::NoRoom)) => print_code(errors, 8),
+        Err(CanonicalError::NoTargetRoom(_)) => print_code(errors, 21),
     }
 }
 

@@ -1,26 +1,8 @@
--- The invariant: what was read, with the bytes that are left, is what all bytes say.
-use mathlib.Core.Path.{refl, ◌∙◌}
-use native.Mathlib.Omega.{arith}
-use Rattle.argument.proofs.Digits as laws
-use borrow.Author.Rules.{rules}
+-- A byte that makes the number end decides the answer, whatever follows it.
+use Rattle.std.proofs.Common.{rules, ◌∙◌}
+use Rattle.argument.proofs.Digits.{ends}
 use Rattle.argument.proofs.read_decimal.Goals as goal
 
-pub returns-then-text-eq0 : goal.returns-then-text-eq0
-returns-then-text-eq0 c =
-    laws.no_bytes c.args.text.now c.if-text-eq0.true
-
-pub loop-i-init : goal.loop-i-init
-loop-i-init c =
-    (omega arith, refl)
-
-pub loop-i-preserved : goal.loop-i-preserved
-loop-i-preserved c = (
-  search rules,
-  laws.next c.args.text.now c.loop-i.i c.loop-i.d c.with_byte-d.result (search rules)
-      c.with_byte-d.ensures ∙ c.loop-i.invariant.1,
-)
-
-pub returns : goal.returns
-returns c =
-    laws.last c.args.text.now c.loop-i.i c.loop-i.d (omega arith)
-    ∙ (c.loop-i.invariant.1 ∙ laws.some_bytes c.args.text.now c.if-text-eq0.false)
+pub returns-in_err-n : goal.returns-in_err-n
+returns-in_err-n c =
+    (search rules) ∙ ends c.args.text.now c.loop-c.c-index c.loop-c.n c.in_err-n.field-0.0 _ c.loop-c-test.true c.in_err-n.ensures c.loop-c.invariant.1

@@ -11,7 +11,7 @@ decreases-put_members l = l.to - l.from
 
 abbrev pub invariant-loop-i : goal.invariant-loop-i
 invariant-loop-i l =
-    Going (nodes_of l.bytes) l.initial.target l.target l.from l.start l.to l.i l.at
+    Going (nodes_of l.set) l.initial.target l.target l.from l.start l.to l.i l.at
 
 abbrev pub decreases-loop-i : goal.decreases-loop-i
 decreases-loop-i l =

@@ -4,14 +4,13 @@ use Rattle.canonical.proofs.Shape.{head-least}
 use Rattle.canonical.proofs.Puts.{header-puts}
 use Rattle.canonical.proofs.put_header.Goals as goal
 
-pub put_u16-requires : goal.put_u16-requires
-put_u16-requires c = omega (arith, head-least c.args.vr, c.requires)
+pub put_number-requires-clause-within : goal.put_number-requires-clause-within
+put_number-requires-clause-within c = omega (arith, head-least c.args.vr, c.requires)
 
-pub put_u16-requires-2 : goal.put_u16-requires-2
-put_u16-requires-2 c =
-    omega (arith, head-least c.args.vr, c.requires)
+pub put_number-requires-2-clause-within : goal.put_number-requires-2-clause-within
+put_number-requires-2-clause-within c = omega (arith, head-least c.args.vr, c.requires)
 
 pub returns : goal.returns
 returns c =
-    header-puts c.args.tag c.args.vr c.args.size c.put_u16.ensures c.put_u16-2.ensures
+    header-puts c.args.tag c.args.vr c.args.size c.put_number.ensures c.put_number-2.ensures
     c.put_length.ensures

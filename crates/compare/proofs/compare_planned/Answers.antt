@@ -27,22 +27,19 @@ fill-requires c =
 pub compare_frame-requires : goal.compare_frame-requires
 compare_frame-requires c =
     let b = planned.based c.requires.0 in (
-      c.requires.0.table,
+      planned.is-pixels c.requires.0,
       (
-        planned.is-pixels c.requires.0,
+        record {
+          shape = b.shape;
+          inside = b.inside;
+          shaded = record { drawable = c.requires.0.plan.drawable; shades = λ e. c.fill.ensures };
+          above = omega (arith, length-replicate {A = ℕ} longest_row 0);
+          below = omega (arith, length-replicate {A = ℕ} longest_row 0);
+          wide = omega (arith, length-replicate {A = ℕ} 65535 0);
+        },
         (
-          record {
-            shape = b.shape;
-            inside = b.inside;
-            shaded = record { drawable = c.requires.0.plan.drawable; shades = λ e. c.fill.ensures };
-            above = omega (arith, length-replicate {A = ℕ} longest_row 0);
-            below = omega (arith, length-replicate {A = ℕ} longest_row 0);
-            wide = omega (arith, length-replicate {A = ℕ} 65535 0);
-          },
-          (
-            planned.masks-ready c.requires.0,
-            subst (λ (k : ℕ). Against c.args.cells.now c.args.tolerance k) (sym b.size) c.requires.1,
-          ),
+          planned.masks-ready c.requires.0,
+          subst (λ (k : ℕ). Against c.args.cells.now c.args.tolerance k) (sym b.size) c.requires.1,
         ),
       ),
     )
@@ -53,8 +50,8 @@ returns c =
     let t : Shades = record { window = c.args.own.window; inverse = c.args.c.inverse; filled = true } in
     let d = planned.picture c.requires.0 t refl refl in
     c.compare_frame.ensures
-    ∙ (met-list c.args.tolerance (shade_by (nodes_of c.args.bytes.now) (shades_of t c.args.c.g.stored)
-    c.args.c.g (value_at (nodes_of c.args.bytes.now) c.args.c.p) c.args.frame
-    c.args.own.masking) c.args.cells.now (picture_of (nodes_of c.args.bytes.now) c.args.frame).samples
+    ∙ (met-list c.args.tolerance (shade_by (nodes_of c.args.set.now) (shades_of t c.args.c.g.stored)
+    c.args.c.g (value_at (nodes_of c.args.set.now) c.args.c.p) c.args.frame
+    c.args.own.masking) c.args.cells.now (picture_of (nodes_of c.args.set.now) c.args.frame).samples
     (samples_of c.args.c.g) d.cells ∙ ap (λ (k : ℕ). along (is_off c.args.tolerance
-    (picture_of (nodes_of c.args.bytes.now) c.args.frame).samples c.args.cells.now) 0 k none_off) b.size)
+    (picture_of (nodes_of c.args.set.now) c.args.frame).samples c.args.cells.now) 0 k none_off) b.size)

@@ -1,28 +1,8 @@
 -- What is left to find, over the frames and then over the rules, is what is to be found in all.
-use mathlib.Core.Path.{refl, sym, ◌∙◌}
+use mathlib.Core.Path.{sym, ◌∙◌}
 use native.Mathlib.Omega.{arith}
 use Rattle.conformance.proofs.Loops as loops
 use Rattle.conformance.proofs.first_broken.Goals as goal
-
-pub judge-init : goal.judge-init
-judge-init c =
-    tt
-
-pub loop-rule-init : goal.loop-rule-init
-loop-rule-init c =
-    (omega arith, (omega arith, refl))
-
-pub part_for-part-requires : goal.part_for-part-requires
-part_for-part-requires c =
-    (c.requires, c.shared_item-shared.ensures.below)
-
-pub first_frame-first-requires : goal.first_frame-first-requires
-first_frame-first-requires c =
-    tt
-
-pub end_frame-end-requires : goal.end_frame-end-requires
-end_frame-end-requires c =
-    c.frame_total-n.ensures.1
 
 pub loop-frame-init : goal.loop-frame-init
 loop-frame-init c = (
@@ -33,25 +13,18 @@ loop-frame-init c = (
 
 pub rule_holds-requires : goal.rule_holds-requires
 rule_holds-requires c = (
-  c.requires,
+  c.shared_item-shared.ensures.below,
   (
-    c.shared_item-shared.ensures.below,
+    c.shared_item-shared.ensures.value,
     (
-      c.shared_item-shared.ensures.value,
-      (
-        c.part_for-part.ensures,
-        loops.asked-at _ c.frame_total-n.result c.loop-rule.rule c.loop-frame.frame c.loop-rule.invariant.0
-            c.loop-rule-test.true (omega (arith, c.first_frame-first.ensures, c.loop-frame.invariant.1.0))
-            (omega (arith, c.end_frame-end.ensures.0, c.loop-frame-test.true))
-            (rw c.first_frame-first.ensures at c.loop-frame.invariant.1.1),
-      ),
+      c.part_for-part.ensures,
+      loops.asked-at _ c.frame_total-n.result c.loop-rule.rule c.loop-frame.frame c.loop-rule.invariant.0
+          c.loop-rule-test.true (omega (arith, c.first_frame-first.ensures, c.loop-frame.invariant.1.0))
+          (omega (arith, c.end_frame-end.ensures.0, c.loop-frame-test.true))
+          (rw c.first_frame-first.ensures at c.loop-frame.invariant.1.1),
     ),
   ),
 )
-
-pub advance-left-requires : goal.advance-left-requires
-advance-left-requires c =
-    (c.requires, c.loop-frame.invariant.1.1.inner)
 
 pub loop-frame-preserved : goal.loop-frame-preserved
 loop-frame-preserved c = (

@@ -11,9 +11,9 @@ use Rattle.conformance.proofs.first_broken.Given as goal
 
 abbrev pub invariant-loop-frame : goal.invariant-loop-frame
 invariant-loop-frame l =
-    (lowest (nodes_of l.bytes) l.rule (l.end - l.frame) l.frame (first_broken (nodes_of l.bytes) (end_rule - (l.rule + 1)) (l.rule + 1))
-    ≡ finding_of (nodes_of l.bytes))
-    × ((l.first ≤ l.frame) × Along (nodes_of l.bytes) (drop (l.frame - l.first) (frame_items (nodes_of l.bytes))) l.left)
+    (lowest (nodes_of l.set) l.rule (l.end - l.frame) l.frame (first_broken (nodes_of l.set) (end_rule - (l.rule + 1)) (l.rule + 1))
+    ≡ finding_of (nodes_of l.set))
+    × ((l.first ≤ l.frame) × Along (nodes_of l.set) (drop (l.frame - l.first) (frame_items (nodes_of l.set))) l.left)
 
 abbrev pub decreases-loop-frame : goal.decreases-loop-frame
 decreases-loop-frame l =
@@ -21,7 +21,7 @@ decreases-loop-frame l =
 
 abbrev pub invariant-loop-rule : goal.invariant-loop-rule
 invariant-loop-rule l =
-    (1 ≤ l.rule) × ((l.rule ≤ end_rule) × (first_broken (nodes_of l.bytes) (end_rule - l.rule) l.rule ≡ finding_of (nodes_of l.bytes)))
+    (1 ≤ l.rule) × ((l.rule ≤ end_rule) × (first_broken (nodes_of l.set) (end_rule - l.rule) l.rule ≡ finding_of (nodes_of l.set)))
 
 abbrev pub decreases-loop-rule : goal.decreases-loop-rule
 decreases-loop-rule l =

@@ -9,9 +9,9 @@ use Rattle.conformance.proofs.once_holds.Goals as goal
 
 pub mask_rule-requires : goal.mask_rule-requires
 mask_rule-requires c =
-    (c.requires.0, (loops.once-mask c.args.rule c.requires.1.1.1 (omega (arith, c.if-rule-le26.false)), c.if-rule-le36.true))
+    (loops.once-mask c.args.rule c.requires.1.1 (omega arith), omega arith)
 
-pub returns-else-rule-le36 : goal.returns-else-rule-le36
-returns-else-rule-le36 c =
-    c.rule_38.ensures.value_2 ∙ ap (λ (k : ℕ). rule_at (nodes_of c.args.bytes.now) k 0)
-    (sym (loops.once_last c.args.rule c.requires.1.1.1 (omega (arith, c.if-rule-le36.false)) c.requires.1.1.0))
+pub returns-in_default : goal.returns-in_default
+returns-in_default c =
+    c.rule_38.ensures.value_2 ∙ ap (λ (k : ℕ). rule_at (nodes_of c.args.set.now) k 0)
+    (sym (loops.once_last c.args.rule c.requires.1.1 (omega arith) c.requires.1.0))

@@ -1,12 +1,6 @@
--- The first walk is lent an empty part of the buffer, so that it leaves the buffer as it was; the second writes the rows.
-use mathlib.Core.Path.{subst, ◌∙◌, ap}
+-- The first walk is lent no room; the second, which goes as the first, writes the rows.
 use native.Mathlib.Omega.{arith}
-use lib.ListN.{length}
-use mathlib.Core.List.{List}
-use Prim.Native.Nat.{ℕ}
-use Rattle.dataset.specs.Reading.{elements_at}
-use Rattle.dataset.specs.Internal.{Walked}
-use Rattle.dataset.proofs.Level as level
+use Rattle.std.proofs.lemmas.Result.{err_from_is_err_and}
 use Rattle.dataset.proofs.Whole as whole
 use Rattle.dataset.proofs.read.Goals as goal
 
@@ -17,37 +11,33 @@ returns-then-bytes-gt-LARGEST c =
       rows_after = x.1;
     }
 
-pub returns-then-rows-n : goal.returns-then-rows-n
-returns-then-rows-n c =
+pub returns-in_err-counted : goal.returns-in_err-counted
+returns-in_err-counted c =
     let a = c.args in
-    let call = c.read_item in
-    let e = whole.nothing call.new.rows a.rows.now call.auto.rows in
-    let x = whole.no_room a.bytes.now a.rows.now c.if-bytes-gt-LARGEST.false (level.walked c.in-Done.is call.ensures)
-    (omega (arith, c.if-rows-n.true, ap (λ (l : List ℕ). length l) e)) in record {
-      answers = x.0;
-      rows_after = e ∙ x.1;
+    let e = err_from_is_err_and c.from_residual.result c.from_residual.ensures.1 in
+    let x = whole.refused a.bytes.now a.rows.now c.if-bytes-gt-LARGEST.false
+    (whole.from-start a.bytes.now c.start-c.ensures c.in_err-counted.was c.read_item.ensures) in record {
+      answers = rw (e.1, e.2) x.0;
+      rows_after = x.1;
     }
 
-pub returns-in-Refused : goal.returns-in-Refused
-returns-in-Refused c =
+pub returns-then-rows-counted : goal.returns-then-rows-counted
+returns-then-rows-counted c =
     let a = c.args in
-    let call = c.read_item in
-    let e = whole.nothing call.new.rows a.rows.now call.auto.rows in
-    let x = whole.refusal a.bytes.now a.rows.now c.if-bytes-gt-LARGEST.false (level.walked c.in-Refused.is call.ensures) in record {
+    let x = whole.no_room a.bytes.now a.rows.now c.if-bytes-gt-LARGEST.false
+    (whole.from-start a.bytes.now c.start-c.ensures c.in_ok-counted.was c.read_item.ensures)
+    (omega (arith, c.if-rows-counted.true)) in record {
       answers = x.0;
-      rows_after = e ∙ x.1;
+      rows_after = x.1;
     }
 
-pub returns-else-rows-n : goal.returns-else-rows-n
-returns-else-rows-n c =
+pub returns : goal.returns
+returns c =
     let a = c.args in
-    let call = c.read_item in
-    let e = whole.nothing call.new.rows a.rows.now call.auto.rows in
-    let again = c.read_item-in-Done in
-    let x = whole.filled a.bytes.now a.rows.now c.if-bytes-gt-LARGEST.false (level.walked c.in-Done.is call.ensures)
-    (omega (arith, c.if-rows-n.false, ap (λ (l : List ℕ). length l) e))
-    (subst (λ (l : List ℕ). Walked (elements_at 8 a.bytes.now 0 (whole.all a.bytes.now)) (whole.all a.bytes.now) 0 l
-    again.new.rows again.result) e again.ensures) in record {
+    let x = whole.filled a.bytes.now a.rows.now c.if-bytes-gt-LARGEST.false
+    (whole.from-start a.bytes.now c.start-c.ensures c.in_ok-counted.was c.read_item.ensures)
+    (omega (arith, c.if-rows-counted.false))
+    (whole.from-start a.bytes.now c.start-c.ensures c.in_ok-written.was c.read_item-2.ensures) in record {
       answers = x.0;
       rows_after = x.1;
     }

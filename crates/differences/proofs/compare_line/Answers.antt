@@ -29,12 +29,8 @@ pub bounds-cells-place : goal.bounds-cells-place
 bounds-cells-place c =
     omega (arith, c.requires.inside, c.loop-k-test.true, c.loop-k.invariant.1.0)
 
-pub is_off-off-requires : goal.is_off-off-requires
-is_off-off-requires c =
-    (c.wide.ensures.1, (c.wide-in-loop-k.ensures.1, c.requires.most))
-
-pub look-next-requires : goal.look-next-requires
-look-next-requires c = (
+pub look-found-requires : goal.look-found-requires
+look-found-requires c = (
   subst (λ (d : Differing). d.count ≤ c.args.at + c.loop-k.k) (sym c.loop-k.invariant.1.1)
       (omega (
         arith,
@@ -64,7 +60,7 @@ loop-k-preserved c = (
         not (within c.args.tolerance (get_or c.args.line.now j 0)
         (get_or c.args.cells.now (c.args.at + j) 0)))
         c.args.at c.loop-k.k c.args.sofar c.loop-k.found _ _ c.loop-k.invariant.1.1
-        (c.is_off-off.ensures ∙ rw (c.wide.ensures.0, c.wide-in-loop-k.ensures.0)) c.look-next.ensures,
+        (c.is_off-off.ensures ∙ rw (c.from.ensures, c.from-in-loop-k.ensures)) c.look-found.ensures,
   ),
 )
 

@@ -14,40 +14,27 @@ use Rattle.display.proofs.Scenes as scenes
 use Rattle.window.specs.Internal.{shade_places}
 use Rattle.display.proofs.draw.Goals as goal
 
-pub scene_of-c-requires : goal.scene_of-c-requires
-scene_of-c-requires c =
-    let ready = c.requires in
-    (ready.table, ready.object)
-
-pub plan_for-own-requires : goal.plan_for-own-requires
-plan_for-own-requires c =
-    let ready = c.requires in
-    (ready.table, (ready.object, (c.scene_of-c.ensures, (ready.low, ready.high))))
-
 pub fill-requires : goal.fill-requires
 fill-requires c =
     let ready = c.requires in
-    let b = scenes.based c.args.bytes.now c.args.n c.args.frame ready.object ready.low
+    let b = scenes.based c.args.set.now c.args.n c.args.frame ready.object ready.low
     ready.high c.scene_of-c.result c.scene_of-c.ensures in
     (c.plan_for-own.ensures.drawable, (b.shape.stored_some, (b.shape.stored-most, length-replicate {A = ℕ} shade_places 0)))
 
 pub paint-requires : goal.paint-requires
 paint-requires c =
     let ready = c.requires in
-    let b = scenes.based c.args.bytes.now c.args.n c.args.frame ready.object ready.low
+    let b = scenes.based c.args.set.now c.args.n c.args.frame ready.object ready.low
     ready.high c.scene_of-c.result c.scene_of-c.ensures in (
-      ready.table,
+      c.scene_of-c.ensures.below,
       (
-        c.scene_of-c.ensures.below,
+        record { shape = b.shape; inside = b.inside; room = omega (arith, b.size, ready.room) },
         (
-          record { shape = b.shape; inside = b.inside; room = omega (arith, b.size, ready.room) },
-          (
-            scenes.ready c.args.bytes.now c.args.n c.args.frame ready.object ready.low
-                ready.high c.scene_of-c.result c.scene_of-c.ensures
-                c.plan_for-own.result
-                c.plan_for-own.ensures,
-            (record { drawable = c.plan_for-own.ensures.drawable; shades = λ e. c.fill.ensures }, refl),
-          ),
+          scenes.ready c.args.set.now c.args.n c.args.frame ready.object ready.low
+              ready.high c.scene_of-c.result c.scene_of-c.ensures
+              c.plan_for-own.result
+              c.plan_for-own.ensures,
+          (record { drawable = c.plan_for-own.ensures.drawable; shades = λ e. c.fill.ensures }, refl),
         ),
       ),
     )
@@ -55,23 +42,23 @@ paint-requires c =
 pub returns : goal.returns
 returns c =
     let ready = c.requires in
-    let b = scenes.based c.args.bytes.now c.args.n c.args.frame ready.object ready.low
+    let b = scenes.based c.args.set.now c.args.n c.args.frame ready.object ready.low
     ready.high c.scene_of-c.result c.scene_of-c.ensures in
     let t : Shades = record {
       window = c.plan_for-own.result.window;
       inverse = c.scene_of-c.result.inverse;
       filled = true;
     } in
-    let s = painted-shows (nodes_of c.args.bytes.now) c.args.frame c.args.n c.scene_of-c.result.g
-    (value_at (nodes_of c.args.bytes.now) c.scene_of-c.result.p) c.plan_for-own.result.window
-    c.scene_of-c.result.inverse c.scene_of-c.ensures.geometry (scenes.pixels-are c.args.bytes.now
+    let s = painted-shows (nodes_of c.args.set.now) c.args.frame c.args.n c.scene_of-c.result.g
+    (value_at (nodes_of c.args.set.now) c.scene_of-c.result.p) c.plan_for-own.result.window
+    c.scene_of-c.result.inverse c.scene_of-c.ensures.geometry (scenes.pixels-are c.args.set.now
     c.args.n c.args.frame ready.object ready.low ready.high
     c.scene_of-c.result c.scene_of-c.ensures).is b.inside c.plan_for-own.ensures.window-is
     c.plan_for-own.ensures.drawable c.scene_of-c.ensures.inverse-is b.each b.shape.stored_some
     (shades_of t c.scene_of-c.result.g.stored)
     (ideal-filled t c.scene_of-c.result.g.stored b.shape.stored-most) c.args.image.now
     (omega (arith, b.size, ready.room)) c.plan_for-own.result.masking
-    c.plan_for-own.ensures.masking-is (scenes.all c.args.bytes.now c.args.n c.args.frame ready.object
+    c.plan_for-own.ensures.masking-is (scenes.all c.args.set.now c.args.n c.args.frame ready.object
     ready.low ready.high c.scene_of-c.result
     c.scene_of-c.ensures).mask in record {
       value = c.paint.ensures.value ∙ s.masked-is;

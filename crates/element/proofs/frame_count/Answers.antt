@@ -5,7 +5,7 @@ use Rattle.element.proofs.frame_count.Goals as goal
 
 pub value-requires : goal.value-requires
 value-requires c =
-    (c.requires, node_laws.within _ c.in-Is.is c.find_vr_root.ensures.below)
+    node_laws.within _ c.in-Some.is c.find_vr_root.ensures.below
 
 pub as_count-requires : goal.as_count-requires
 as_count-requires c =
@@ -18,12 +18,12 @@ returns-in-None c = record {
   below = tt;
 }
 
-pub returns-in-Is : goal.returns-in-Is
+pub returns-in-Some : goal.returns-in-Some
 unfolding frames_of
-returns-in-Is c =
+returns-in-Some c =
     record {
       value = rw (
-        node_laws.had c.in-Is.is c.find_vr_root.ensures.value,
+        node_laws.had c.in-Some.is c.find_vr_root.ensures.value,
         ← c.value.ensures,
         ← c.integer_of.ensures.value,
       ) c.as_count.ensures.value;

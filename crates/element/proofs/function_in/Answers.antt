@@ -5,14 +5,14 @@ use Rattle.element.proofs.function_in.Goals as goal
 
 pub function_at-requires : goal.function_at-requires
 function_at-requires c =
-    (c.requires.0, node_laws.within _ c.in-Is.is c.find_in_item.ensures.below)
+    node_laws.within _ c.in-Some.is c.find_in_item.ensures.below
 
 pub returns-in-None : goal.returns-in-None
 unfolding function_in
 returns-in-None c =
     rw (node_laws.had-none c.in-None.is c.find_in_item.ensures.value)
 
-pub returns-in-Is : goal.returns-in-Is
+pub returns-in-Some : goal.returns-in-Some
 unfolding function_in
-returns-in-Is c =
-    rw (node_laws.had c.in-Is.is c.find_in_item.ensures.value) c.function_at.ensures
+returns-in-Some c =
+    rw (node_laws.had c.in-Some.is c.find_in_item.ensures.value) c.function_at.ensures

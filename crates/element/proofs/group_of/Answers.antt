@@ -2,11 +2,11 @@
 use Rattle.node.proofs.Laws as node_laws
 use Rattle.element.proofs.group_of.Goals as goal
 
-pub returns-in-Is : goal.returns-in-Is
-returns-in-Is c =
+pub returns-in-Some : goal.returns-in-Some
+returns-in-Some c =
     record {
-      value = rw (node_laws.had c.in-Is.is c.find_in_item.ensures.value);
-      below = node_laws.within _ c.in-Is.is c.find_in_item.ensures.below;
+      value = rw (node_laws.had c.in-Some.is c.find_in_item.ensures.value);
+      below = node_laws.within _ c.in-Some.is c.find_in_item.ensures.below;
     }
 
 pub returns-in-None : goal.returns-in-None

@@ -5,14 +5,14 @@ use Rattle.element.proofs.has_root.Goals as goal
 
 pub is_filled-requires : goal.is_filled-requires
 is_filled-requires c =
-    let p = c.requires in
-    (p, laws.within _ c.in-Is.is c.find_vr_root.ensures.below)
+    let p = (laws.tabled c.args.set.now) in
+    laws.within _ c.in-Some.is c.find_vr_root.ensures.below
 
 pub returns-in-None : goal.returns-in-None
 unfolding has
 returns-in-None c = rw (laws.had-none c.in-None.is c.find_vr_root.ensures.value)
 
-pub returns-in-Is : goal.returns-in-Is
+pub returns-in-Some : goal.returns-in-Some
 unfolding has
-returns-in-Is c =
-    rw (laws.had c.in-Is.is c.find_vr_root.ensures.value) c.is_filled.ensures
+returns-in-Some c =
+    rw (laws.had c.in-Some.is c.find_vr_root.ensures.value) c.is_filled.ensures

@@ -6,6 +6,6 @@ pub returns-in-None : goal.returns-in-None
 returns-in-None c =
     rw (node_laws.had-none c.in-None.is c.find_root.ensures.value)
 
-pub returns-in-Is : goal.returns-in-Is
-returns-in-Is c =
-    rw (node_laws.had c.in-Is.is c.find_root.ensures.value)
+pub returns-in-Some : goal.returns-in-Some
+returns-in-Some c =
+    rw (node_laws.had c.in-Some.is c.find_root.ensures.value)

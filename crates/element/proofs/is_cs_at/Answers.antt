@@ -4,8 +4,8 @@ use Rattle.element.proofs.is_cs_at.Goals as goal
 
 pub value-requires : goal.value-requires
 value-requires c =
-    (c.requires.0, node_laws.within _ c.in-Is.is c.requires.1)
+    node_laws.within _ c.in-Some.is c.requires
 
-pub returns-in-Is : goal.returns-in-Is
-returns-in-Is c =
-    rw (c.in-Is.is, ← c.value.ensures) c.is_word.ensures
+pub returns-in-Some : goal.returns-in-Some
+returns-in-Some c =
+    rw (c.in-Some.is, ← c.value.ensures) c.is_word.ensures

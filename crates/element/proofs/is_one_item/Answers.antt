@@ -7,6 +7,6 @@ pub returns-in-None : goal.returns-in-None
 returns-in-None c =
     laws.one-item-not _ _ (node_laws.had-none c.in-None.is c.the_item.ensures.value)
 
-pub returns-in-Is : goal.returns-in-Is
-returns-in-Is c =
-    laws.one-item-is _ _ _ (node_laws.had c.in-Is.is c.the_item.ensures.value)
+pub returns-in-Some : goal.returns-in-Some
+returns-in-Some c =
+    laws.one-item-is _ _ _ (node_laws.had c.in-Some.is c.the_item.ensures.value)

@@ -4,12 +4,12 @@ use Rattle.element.proofs.is_ui_root.Goals as goal
 
 pub value-requires : goal.value-requires
 value-requires c =
-    (c.requires, node_laws.within _ c.in-Is.is c.find_vr_root.ensures.below)
+    node_laws.within _ c.in-Some.is c.find_vr_root.ensures.below
 
 pub returns-in-None : goal.returns-in-None
 returns-in-None c =
     rw (node_laws.had-none c.in-None.is c.find_vr_root.ensures.value)
 
-pub returns-in-Is : goal.returns-in-Is
-returns-in-Is c =
-    rw (node_laws.had c.in-Is.is c.find_vr_root.ensures.value, ← c.value.ensures) c.is_uid.ensures
+pub returns-in-Some : goal.returns-in-Some
+returns-in-Some c =
+    rw (node_laws.had c.in-Some.is c.find_vr_root.ensures.value, ← c.value.ensures) c.is_uid.ensures

@@ -9,20 +9,20 @@ use Rattle.element.proofs.items_root.Goals as goal
 
 pub overflow_add-result : goal.overflow_add-result
 overflow_add-result c =
-    omega (arith, node_laws.within _ c.in-Is.is c.find_vr_root.ensures.below, c.requires.few)
+    omega (arith, node_laws.within _ c.in-Some.is c.find_vr_root.ensures.below, (node_laws.tabled c.args.set.now).few)
 
 pub next-requires : goal.next-requires
 next-requires c =
-    (c.requires, node_laws.within _ c.in-Is.is c.find_vr_root.ensures.below)
+    node_laws.within _ c.in-Some.is c.find_vr_root.ensures.below
 
 pub returns-in-None : goal.returns-in-None
 unfolding items_in
 returns-in-None c =
     rw (node_laws.had-none c.in-None.is c.find_vr_root.ensures.value)
-    (laws.along-none (nodes_of c.args.bytes.now))
+    (laws.along-none (nodes_of c.args.set.now))
 
-pub returns-in-Is : goal.returns-in-Is
+pub returns-in-Some : goal.returns-in-Some
 unfolding items_in
-returns-in-Is c =
-    rw (node_laws.had c.in-Is.is c.find_vr_root.ensures.value, ← c.next.ensures.0)
+returns-in-Some c =
+    rw (node_laws.had c.in-Some.is c.find_vr_root.ensures.value, ← c.next.ensures.0)
     (record { ahead = refl; inner = c.next.ensures.1 })

@@ -5,7 +5,7 @@ use Rattle.element.proofs.shared_item.Goals as goal
 
 pub the_item-requires : goal.the_item-requires
 the_item-requires c =
-    (c.requires, node_laws.within _ c.in-Is.is c.find_root.ensures.below)
+    node_laws.within _ c.in-Some.is c.find_root.ensures.below
 
 pub returns-in-None : goal.returns-in-None
 unfolding shared_item
@@ -14,10 +14,10 @@ returns-in-None c = record {
   below = tt;
 }
 
-pub returns-in-Is : goal.returns-in-Is
+pub returns-in-Some : goal.returns-in-Some
 unfolding shared_item
-returns-in-Is c =
+returns-in-Some c =
     record {
-      value = rw (node_laws.had c.in-Is.is c.find_root.ensures.value) c.the_item.ensures.value;
+      value = rw (node_laws.had c.in-Some.is c.find_root.ensures.value) c.the_item.ensures.value;
       below = c.the_item.ensures.below;
     }

@@ -1,39 +1,22 @@
--- A sequence has one item just where its first item starts inside it and ends where it does.
+-- A sequence has one item just where there is a first item and no second.
 use mathlib.Core.Path.{sym, ◌∙◌}
 use Rattle.element.proofs.Laws as laws
-use native.Mathlib.Omega.{arith}
-use Rattle.node.specs.Nodes.{nodes_of}
 use Rattle.element.proofs.the_item.Goals as goal
 
-pub returns-then-next-end : goal.returns-then-next-end
-returns-then-next-end c =
-    let q = sym c.vr.ensures ∙ c.if-vr-eq-SQ.true in record {
-      value = sym (laws.one-item-many (nodes_of c.args.bytes.now) c.args.i q
-          (omega (arith, c.next-end.ensures.0, c.if-first-end.true))
-          (omega (arith, c.next-end.ensures.0, c.next.ensures.0, c.if-next-end.true)));
-      below = tt;
-    }
+pub returns-then-vr-ne-SQ-clause-value : goal.returns-then-vr-ne-SQ-clause-value
+returns-then-vr-ne-SQ-clause-value c = sym (laws.one-item-other _ _ (λ e. c.if-vr-ne-SQ.true (c.vr.ensures ∙ e)))
 
-pub returns-else-next-end : goal.returns-else-next-end
-returns-else-next-end c =
-    let q = sym c.vr.ensures ∙ c.if-vr-eq-SQ.true in record {
-      value = sym (laws.one-item-one (nodes_of c.args.bytes.now) c.args.i q
-          (omega (arith, c.next-end.ensures.0, c.if-first-end.true))
-          (omega (arith, c.next-end.ensures.0, c.next.ensures.0, c.if-next-end.false)));
-      below = omega (arith, c.next-end.ensures.1, c.if-first-end.true);
-    }
+pub returns-in_err-first-clause-value : goal.returns-in_err-first-clause-value
+returns-in_err-first-clause-value c =
+    c.from_residual.ensures
+    ∙ sym (laws.one-item-none _ _ _ (sym c.vr.ensures ∙ c.if-vr-ne-SQ.false) c.inside-items.ensures.value c.in_err-first.ensures.steps.0)
 
-pub returns-else-first-end : goal.returns-else-first-end
-returns-else-first-end c =
-    let q = sym c.vr.ensures ∙ c.if-vr-eq-SQ.true in record {
-      value = sym (laws.one-item-none (nodes_of c.args.bytes.now) c.args.i q
-          (omega (arith, c.next-end.ensures.0, c.if-first-end.false)));
-      below = tt;
-    }
+pub returns-in-None-clause-value : goal.returns-in-None-clause-value
+returns-in-None-clause-value c =
+    sym (laws.one-item-one _ _ _ (sym c.vr.ensures ∙ c.if-vr-ne-SQ.false) c.inside-items.ensures.value _ _ c.in_ok-first.ensures.steps
+    c.in-None.ensures.steps.0)
 
-pub returns-else-vr-eq-SQ : goal.returns-else-vr-eq-SQ
-returns-else-vr-eq-SQ c =
-    record {
-      value = sym (laws.one-item-other (nodes_of c.args.bytes.now) c.args.i (λ e. c.if-vr-eq-SQ.false (c.vr.ensures ∙ e)));
-      below = tt;
-    }
+pub returns-in-Some-clause-value : goal.returns-in-Some-clause-value
+returns-in-Some-clause-value c =
+    sym (laws.one-item-many _ _ _ (sym c.vr.ensures ∙ c.if-vr-ne-SQ.false) c.inside-items.ensures.value _ _ _ _ c.in_ok-first.ensures.steps
+    c.in-Some.ensures.steps)

@@ -4,11 +4,11 @@ use Rattle.element.proofs.us_at.Goals as goal
 
 pub value-requires : goal.value-requires
 value-requires c =
-    (c.requires.0, node_laws.within _ c.in-Is.is c.requires.1)
+    node_laws.within _ c.in-Some.is c.requires
 
-pub returns-in-Is : goal.returns-in-Is
-returns-in-Is c =
+pub returns-in-Some : goal.returns-in-Some
+returns-in-Some c =
     record {
-      value = rw (c.in-Is.is, ← c.value.ensures) c.us_of.ensures.value;
+      value = rw (c.in-Some.is, ← c.value.ensures) c.us_of.ensures.value;
       below = c.us_of.ensures.below;
     }

@@ -7,20 +7,20 @@ use Rattle.element.proofs.vr_at.Goals as goal
 pub vr-requires : goal.vr-requires
 vr-requires c =
     let p = c.requires in
-    (p.0, laws.within _ c.in-Is.is p.1)
+    laws.within _ c.in-Some.is p
 
 pub returns-then-vr : goal.returns-then-vr
 unfolding of_vr
 returns-then-vr c =
-    let found = c.in-Is.is in record {
+    let found = c.in-Some.is in record {
       value = rw (found, ← c.vr.ensures, eq-eqb _ _ c.if-vr.true);
-      below = laws.within _ found c.requires.1;
+      below = laws.within _ found c.requires;
     }
 
 pub returns-else-vr : goal.returns-else-vr
 unfolding of_vr
 returns-else-vr c =
     record {
-      value = rw (c.in-Is.is, ← c.vr.ensures, ne_eqb _ _ c.if-vr.false);
+      value = rw (c.in-Some.is, ← c.vr.ensures, ne_eqb _ _ c.if-vr.false);
       below = tt;
     }

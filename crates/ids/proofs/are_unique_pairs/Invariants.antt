@@ -7,7 +7,7 @@ use Rattle.ids.proofs.are_unique_pairs.Given as goal
 
 abbrev pub invariant-loop-at : goal.invariant-loop-at
 invariant-loop-at l =
-    unique_ids (nodes_of l.bytes) (members (nodes_of l.bytes) l.at l.to) ≡ unique_ids (nodes_of l.bytes) (members (nodes_of l.bytes) l.from l.to)
+    unique_ids (nodes_of l.set) (members (nodes_of l.set) l.at l.to) ≡ unique_ids (nodes_of l.set) (members (nodes_of l.set) l.from l.to)
 
 abbrev pub decreases-loop-at : goal.decreases-loop-at
 decreases-loop-at l =

@@ -7,7 +7,7 @@ use Rattle.intensity.proofs.next_linear.Given as goal
 
 abbrev pub invariant-loop-j : goal.invariant-loop-j
 invariant-loop-j l =
-    linear_among (nodes_of l.bytes) (members (nodes_of l.bytes) l.j l.to) ≡ linear_among (nodes_of l.bytes) (members (nodes_of l.bytes) l.from l.to)
+    linear_among (nodes_of l.set) (members (nodes_of l.set) l.j l.to) ≡ linear_among (nodes_of l.set) (members (nodes_of l.set) l.from l.to)
 
 abbrev pub decreases-loop-j : goal.decreases-loop-j
 decreases-loop-j l =

@@ -1,16 +1,9 @@
--- A group without its one item has grade 0, and in that item LOG alone makes grade 2.
+-- A group without its one item is broken, and in that item LOG alone makes the grade Log.
 use Rattle.node.proofs.Laws as node_laws
 use Rattle.rules.specs.Intensity.{is_log}
 use Rattle.intensity.specs.Internal.{relation_of}
 use Rattle.element.proofs.Laws as element-laws
 use Rattle.intensity.proofs.relation_of.Goals as goal
-
--- LOST slice-aggregate-is-cs-item : tie.Need-slice-aggregate-is-cs-item
--- slice-aggregate-is-cs-item c = search rules
-
-pub is_cs_item-requires : goal.is_cs_item-requires
-is_cs_item-requires c =
-    (c.requires.0, node_laws.within _ c.in-Is.is c.the_item.ensures.below)
 
 pub returns-in-None : goal.returns-in-None
 unfolding relation_of
@@ -21,8 +14,8 @@ pub returns-then-is_cs_item : goal.returns-then-is_cs_item
 unfolding relation_of is_log
 returns-then-is_cs_item c =
     rw (
-      ← element-laws.one-item-is _ _ _ (node_laws.had c.in-Is.is c.the_item.ensures.value),
-      node_laws.had c.in-Is.is c.the_item.ensures.value,
+      ← element-laws.one-item-is _ _ _ (node_laws.had c.in-Some.is c.the_item.ensures.value),
+      node_laws.had c.in-Some.is c.the_item.ensures.value,
       ← c.is_cs_item.ensures,
       c.if-is_cs_item.true,
     )
@@ -31,8 +24,8 @@ pub returns-else-is_cs_item : goal.returns-else-is_cs_item
 unfolding relation_of is_log
 returns-else-is_cs_item c =
     rw (
-      ← element-laws.one-item-is _ _ _ (node_laws.had c.in-Is.is c.the_item.ensures.value),
-      node_laws.had c.in-Is.is c.the_item.ensures.value,
+      ← element-laws.one-item-is _ _ _ (node_laws.had c.in-Some.is c.the_item.ensures.value),
+      node_laws.had c.in-Some.is c.the_item.ensures.value,
       ← c.is_cs_item.ensures,
       c.if-is_cs_item.false,
     )

@@ -5,11 +5,11 @@ use Rattle.judge_small.proofs.item_row.Goals as goal
 
 pub overflow_add-result : goal.overflow_add-result
 overflow_add-result c =
-    omega (arith, node_laws.within _ c.in-Is.is c.item_at.ensures.below, c.requires.few)
+    omega (arith, node_laws.within _ c.in-Some.is c.item_at.ensures.below, (node_laws.tabled c.args.set.now).few)
 
-pub returns-in-Is : goal.returns-in-Is
-returns-in-Is c =
-    rw (node_laws.had c.in-Is.is c.item_at.ensures.value)
+pub returns-in-Some : goal.returns-in-Some
+returns-in-Some c =
+    rw (node_laws.had c.in-Some.is c.item_at.ensures.value)
 
 pub returns-in-None : goal.returns-in-None
 returns-in-None c =

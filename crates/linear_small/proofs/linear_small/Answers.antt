@@ -1,51 +1,33 @@
 -- A frame is mapped only where the object was accepted; then its rows stand in the buffer, and its size is read from them.
 -- The buffer has seven numbers for each 8 bytes that there may be, so the rows fit.
-use mathlib.Core.Path.{sym, ◌∙◌}
-use Prim.Native.Nat.{◌*◌}
+use mathlib.Core.Path.{refl, sym, ◌∙◌}
+use Prim.Native.Nat.{◌*◌, ◌≤◌}
 use native.Mathlib.Omega.{arith}
-use lib.Seq.{length-take-le}
+use lib.ListN.{length}
 use Rattle.dataset.specs.Answer.{width}
-use Rattle.node.specs.Nodes.{nodes_of}
+use Rattle.show_small.proofs.Roomy.{bare}
 use Rattle.linear_small.proofs.Roomy as laws
 use Rattle.linear_small.proofs.linear_small.Goals as goal
 
+pub new-set-requires : goal.new-set-requires
+new-set-requires c =
+    laws.rows-are _ _ _ _ _ _ c.linear-answer.ensures.answers.same c.in-Ok.is c.linear-answer.ensures.rows_after
+
 pub returns-in_default : goal.returns-in_default
 returns-in_default c =
-    let t = laws.roomy-mapped _ _ _ _ (omega (arith, c.row_buffer-rows.ensures, c.requires)) _ _
-    c.linear-answer.ensures.answers.same c.linear-answer.ensures.values_after in
-    let e = laws.not-mapped (nodes_of c.args.bytes.now) c.linear-answer.result c.in_default.not-Mapped ∙ t.0 in record {
+    let h : width * length c.args.bytes.now ≤ 8 * length c.row_buffer-rows.result = omega (arith, c.row_buffer-rows.ensures, c.requires) in
+    let e = laws.mapped-as _ _ _ _ h c.linear-answer.ensures.answers.same c.in_default.is
+    (bare c.default.ensures.0 c.default.ensures.1) in record {
       value = e;
-      values_after = t.1;
+      values_after = laws.values-as _ _ _ _ h c.linear-answer.ensures.values_after;
       width_in_bounds = laws.fits _ _ _ _ e;
     }
 
-pub overflow_mul-end : goal.overflow_mul-end
-overflow_mul-end c =
-    let t = laws.after-mapping _ _ _ _ _ _ (sym c.in-Mapped.is ∙ c.linear-answer.ensures.answers.same)
-    c.linear-answer.ensures.rows_after in
-    omega (arith, t.1.size, t.1.few, length-take-le (width * c.in-Mapped.count) c.linear-answer.new.rows t.0)
-
-pub slice_bounds-rows-end : goal.slice_bounds-rows-end
-slice_bounds-rows-end c =
-    (laws.after-mapping _ _ _ _ _ _ (sym c.in-Mapped.is ∙ c.linear-answer.ensures.answers.same)
-    c.linear-answer.ensures.rows_after).0
-
-pub slice_bounds-sides_of-end : goal.slice_bounds-sides_of-end
-slice_bounds-sides_of-end c =
-    sym (length-take-le _ _ (laws.after-mapping _ _ _ _ _ _
-    (sym c.in-Mapped.is ∙ c.linear-answer.ensures.answers.same) c.linear-answer.ensures.rows_after).0)
-
-pub sides_of-sides-requires : goal.sides_of-sides-requires
-sides_of-sides-requires c =
-    (laws.after-mapping _ _ _ _ _ _ (sym c.in-Mapped.is ∙ c.linear-answer.ensures.answers.same)
-    c.linear-answer.ensures.rows_after).1
-
 pub returns : goal.returns
 returns c =
-    let t = laws.roomy-mapped _ _ _ _ (omega (arith, c.row_buffer-rows.ensures, c.requires)) _ _
-    (sym c.in-Mapped.is ∙ c.linear-answer.ensures.answers.same) c.linear-answer.ensures.values_after in
-    let e = laws.mapped-sides (nodes_of c.args.bytes.now) _ c.sides_of-sides.result c.sides_of-sides.ensures ∙ t.0 in record {
+    let h : width * length c.args.bytes.now ≤ 8 * length c.row_buffer-rows.result = omega (arith, c.row_buffer-rows.ensures, c.requires) in
+    let e = laws.mapped-as _ _ _ _ h (sym c.in-Ok.is ∙ c.linear-answer.ensures.answers.same) refl (rw c.new-set.ensures at c.sides_of.ensures) in record {
       value = e;
-      values_after = t.1;
+      values_after = laws.values-as _ _ _ _ h c.linear-answer.ensures.values_after;
       width_in_bounds = laws.fits _ _ _ _ e;
     }

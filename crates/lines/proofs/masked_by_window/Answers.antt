@@ -48,10 +48,6 @@ overflow_add-place c =
       c.power-low.ensures,
     )
 
-pub overflow_add-s : goal.overflow_add-s
-overflow_add-s c =
-    omega (arith, c.requires.0.row.shape.columns-most, c.requires.0.most, c.loop-c-test.true)
-
 pub offset_bounds-masks-s : goal.offset_bounds-masks-s
 offset_bounds-masks-s c =
     omega (arith, c.requires.0.row.shape.columns-most, c.requires.0.most, c.loop-c-test.true)
@@ -63,7 +59,7 @@ bounds-masks-s c =
 pub overflow_sub-place : goal.overflow_sub-place
 overflow_sub-place c =
     omega
-    (arith, c.wider.ensures, c.power-low.ensures, (c.requires.0.masked c.loop-c.c c.loop-c-test.true).1)
+    (arith, c.power-low.ensures, (c.requires.0.masked c.loop-c.c c.loop-c-test.true).1)
 
 pub overflow_add-place-in-loop-c : goal.overflow_add-place-in-loop-c
 overflow_add-place-in-loop-c c =
@@ -108,7 +104,7 @@ loop-c-preserved c =
     ≡ shade_at a.window a.g.stored a.inverse (mask_place a.g a.line.now a.masks.now a.s c.loop-c.c) =
     c.shade.ensures ∙ shade-at a.window a.g.stored a.inverse _ c.power-half.result c.power-low.result _
     c.power-half.ensures c.power-low.ensures (mask-place a.g a.line.now a.masks.now a.s c.loop-c.c
-    _ _ _ c.sample.ensures.0 c.power-low.ensures c.wider.ensures) in (
+    _ _ _ c.sample.ensures.0 c.power-low.ensures refl) in (
       omega (arith, c.loop-c-test.true),
       rw (c.loop-c.invariant.1, e) (painted-more
           (λ i. shade_at a.window a.g.stored a.inverse (mask_place a.g a.line.now a.masks.now a.s i)) _ _),

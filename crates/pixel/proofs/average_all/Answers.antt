@@ -36,7 +36,6 @@ average-requires c = (
     (
       omega (
         arith,
-        c.wider.ensures,
         ap (λ (s : List ℕ). get_or s c.loop-j.j 0) c.loop-j.invariant.1 ∙ painted-beyond _ _ _ _ (omega arith),
         c.requires.1.1.1 c.loop-j.j c.loop-j-test.true,
       ),
@@ -45,15 +44,14 @@ average-requires c = (
   ),
 )
 
-pub overflow_cast-sums : goal.overflow_cast-sums
-overflow_cast-sums c =
+pub overflow_cast-sums-in-loop-j : goal.overflow_cast-sums-in-loop-j
+overflow_cast-sums-in-loop-j c =
     omega (
       arith,
       c.average.ensures,
-      average-fits c.wider.result c.args.n c.requires.0 c.requires.1.0
+      average-fits (get_or c.loop-j.sums c.loop-j.j 0) c.args.n c.requires.0 c.requires.1.0
           (omega (
             arith,
-            c.wider.ensures,
             ap (λ (s : List ℕ). get_or s c.loop-j.j 0) c.loop-j.invariant.1 ∙ painted-beyond _ _ _ _ (omega arith),
             c.requires.1.1.1 c.loop-j.j c.loop-j-test.true,
           )),
@@ -70,7 +68,7 @@ bounds-sums-j-in-loop-j c =
 pub loop-j-preserved : goal.loop-j-preserved
 loop-j-preserved c = (
   omega arith,
-  rw (c.average.ensures, c.wider.ensures, c.loop-j.invariant.1)
+  rw (c.average.ensures, c.loop-j.invariant.1)
       (changed-more (λ x. average_of x c.args.n) c.loop-j.j c.args.sums.now),
 )
 

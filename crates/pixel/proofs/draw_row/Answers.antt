@@ -1,6 +1,5 @@
 -- Invariant: c levels are drawn. An average of samples is no larger than a sample can be, so that the place in the table is not
 -- below 0, and it stays below 2 × 2^stored.
-use Rattle.pixel.specs.Pixel.{average_of}
 use mathlib.Core.Path.{refl, ap, ◌∙◌}
 use Prim.Native.Nat.{ℕ, ◌+◌, ◌-◌, ◌*◌, ◌^◌}
 use native.Mathlib.Nat.{div-le_self}
@@ -53,7 +52,6 @@ average-mask-requires c = (
     (
       omega (
         arith,
-        c.wider.ensures,
         (c.requires.summed (c.loop-c.c + c.args.s)
             (omega (arith, c.requires.most, c.loop-c-test.true))).1,
         sum_fits c.args.n c.args.g.stored c.requires.few c.requires.row.shape.stored-most,
@@ -82,8 +80,8 @@ overflow_sub-levels c =
       arith,
       c.average-mask.ensures,
       c.power-low.ensures,
-      average-most c.wider.result c.args.n
-          c.requires.some c.requires.few (2 ^ c.args.g.stored - 1) (rw c.wider.ensures
+      average-most _ c.args.n
+          c.requires.some c.requires.few (2 ^ c.args.g.stored - 1) (
           (c.requires.summed (c.loop-c.c + c.args.s) (omega (arith, c.requires.most, c.loop-c-test.true))).1),
     )
 
@@ -117,7 +115,7 @@ loop-c-preserved c = (
     row-shade c.args.g c.args.line.now c.args.table.now c.args.sums.now
         c.args.n c.args.s c.loop-c.c c.sample.result c.power-low.result
         c.average-mask.result c.sample.ensures.0 c.power-low.ensures
-        (c.average-mask.ensures ∙ ap (λ (x : ℕ). average_of x c.args.n) c.wider.ensures),
+        (c.average-mask.ensures),
   )
       (painted-more _ _ _),
 )

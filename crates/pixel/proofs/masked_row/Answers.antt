@@ -38,10 +38,6 @@ overflow_add-levels c =
       c.power-low.ensures,
     )
 
-pub overflow_add-s : goal.overflow_add-s
-overflow_add-s c =
-    omega (arith, c.requires.0.row.shape.columns-most, c.requires.0.most, c.loop-c-test.true)
-
 pub offset_bounds-masks-s : goal.offset_bounds-masks-s
 offset_bounds-masks-s c =
     omega (arith, c.requires.0.row.shape.columns-most, c.requires.0.most, c.loop-c-test.true)
@@ -52,7 +48,7 @@ bounds-masks-s c =
 
 pub overflow_sub-levels : goal.overflow_sub-levels
 overflow_sub-levels c =
-    omega (arith, c.wider.ensures, c.power-low.ensures, (c.requires.0.masked c.loop-c.c c.loop-c-test.true).1)
+    omega (arith, c.power-low.ensures, (c.requires.0.masked c.loop-c.c c.loop-c-test.true).1)
 
 pub bounds-table-sample : goal.bounds-table-sample
 bounds-table-sample c =
@@ -82,7 +78,7 @@ loop-c-preserved c = (
   rw (
     c.loop-c.invariant.1,
     mask-place c.args.g c.args.line.now c.args.masks.now c.args.s
-        c.loop-c.c _ _ _ c.sample.ensures.0 c.power-low.ensures c.wider.ensures,
+        c.loop-c.c _ _ _ c.sample.ensures.0 c.power-low.ensures refl,
   )
       (painted-more (λ j.
       get_or c.args.table.now (mask_place c.args.g c.args.line.now c.args.masks.now c.args.s j)

@@ -23,9 +23,9 @@ u16_at-requires c =
 
 pub returns-then-g-eq1 : goal.returns-then-g-eq1
 returns-then-g-eq1 c = (
-  rw c.wide.ensures.0 (cell-narrow c.args.g c.args.pixels.now c.args.low c.args.j
+  rw c.from.ensures (cell-narrow c.args.g c.args.pixels.now c.args.low c.args.j
       c.if-g-eq1.true c.requires.kept),
-  and_le_r c.wide.result c.args.low,
+  and_le_r c.from.result c.args.low,
 )
 
 pub returns-else-g-eq1 : goal.returns-else-g-eq1

@@ -9,7 +9,3 @@ use Rattle.pixel.proofs.sum_row.Given as goal
 abbrev pub invariant-loop-k : goal.invariant-loop-k
 invariant-loop-k l =
     (l.k ≤ length (us_values l.masks)) × ((length l.sums ≡ length l.initial.sums) × Summed l.pixels l.g (drop l.k (us_values l.masks)) l.row l.sums)
-
-abbrev pub decreases-loop-k : goal.decreases-loop-k
-decreases-loop-k l =
-    l.k

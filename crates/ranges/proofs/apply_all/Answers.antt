@@ -10,20 +10,17 @@ use Rattle.ranges.proofs.apply_all.Goals as goal
 pub cover_items-requires : goal.cover_items-requires
 cover_items-requires c =
     let p = c.requires in
-    let ns = nodes_of c.args.bytes.now in
+    let ns = nodes_of c.args.set.now in
     let m = c.mask_items-items.ensures in (
-      p.0,
+      m.inner,
       (
-        m.inner,
+        record { few = p.0.few; marks = p.0.marks; frames = omega (arith, p.0.frames) },
         (
-          record { few = p.1.0.few; marks = p.1.0.marks; frames = omega (arith, p.1.0.frames) },
-          (
-            c.clear.ensures,
-            record {
-              each = λ f low high q. p.1.1.each f low high
-                  (steps-laws.among-items ns f (p.1.1.each f low high) ∙ (ap (first_holding ns f) (sym m.ahead) ∙ q));
-            },
-          ),
+          c.clear.ensures,
+          record {
+            each = λ f low high q. p.1.each f low high
+                (steps-laws.among-items ns f (p.1.each f low high) ∙ (ap (first_holding ns f) (sym m.ahead) ∙ q));
+          },
         ),
       ),
     )
@@ -31,10 +28,10 @@ cover_items-requires c =
 pub returns : goal.returns
 returns c =
     let p = c.requires in
-    let ns = nodes_of c.args.bytes.now in
+    let ns = nodes_of c.args.set.now in
     let m = c.mask_items-items.ensures in
     record {
-      each = λ f low high. steps-laws.among-items ns f (p.1.1.each f low high)
+      each = λ f low high. steps-laws.among-items ns f (p.1.each f low high)
           ∙ (ap (first_holding ns f) (sym m.ahead) ∙ items.left-all _ _ _ _ c.cover_items.ensures f low high);
       below = c.cover_items.ensures.below;
     }

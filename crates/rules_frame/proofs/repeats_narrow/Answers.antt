@@ -1,4 +1,5 @@
 -- What is left of the frame's item comes to what all of it comes to; what the walk has passed in the shared item is asked for no more.
+use Rattle.node.proofs.Laws as node_laws
 use mathlib.Core.Path.{refl, sym, ◌∙◌}
 use native.Mathlib.Omega.{arith}
 use Rattle.node.proofs.Halves.{inside-ascends}
@@ -7,48 +8,19 @@ use Rattle.rules.specs.Frame.{repeats_shared}
 use Rattle.rules_frame.proofs.Merge.{ahead-start, ahead-over, ahead-pass, ahead-at, ahead-here, ahead-next}
 use Rattle.rules_frame.proofs.repeats_narrow.Goals as goal
 
-pub overflow_add-j : goal.overflow_add-j
-overflow_add-j c =
-    let p = c.requires in
-    omega (arith, p.1.1, p.0.few)
-
-pub overflow_add-k : goal.overflow_add-k
-overflow_add-k c =
-    let p = c.requires in
-    omega (arith, p.1.0, p.0.few)
-
 pub loop-j-init : goal.loop-j-init
 unfolding repeats_shared
 loop-j-init c =
     let p = c.requires in (
       rw (← c.next-end.ensures.0),
-      ahead-start _ _ _ _ _ c.next-end.ensures.0 c.next-to.ensures.0 (inside-ascends _ _ p.0 c.args.item p.1.1),
+      ahead-start _ _ _ _ _ c.next-end.ensures.0 c.next-to.ensures.0 (inside-ascends _ _ (node_laws.tabled c.args.set.now) c.args.item p.1),
     )
 
 pub returns-then-to-k : goal.returns-then-to-k
 returns-then-to-k c =
     let p = c.requires in
     let inv = c.loop-j.invariant in
-    sym (ahead-over _ _ _ _ _ _ inv.1 c.if-to-k.true (inside-ascends _ _ p.0 c.args.shared p.1.0)) ∙ inv.0
-
-pub tag-requires : goal.tag-requires
-tag-requires c =
-    let p = c.requires in
-    (p.0, omega (arith, c.if-to-k.false, c.next-to.ensures.1))
-
-pub tag-requires-in-loop-j : goal.tag-requires-in-loop-j
-tag-requires-in-loop-j c =
-    let p = c.requires in
-    (p.0, omega (arith, c.loop-j-test.true, c.next-end.ensures.1))
-
-pub next-k-requires : goal.next-k-requires
-next-k-requires c =
-    let p = c.requires in
-    (p.0, omega (arith, c.if-to-k.false, c.next-to.ensures.1))
-
-pub loop-j-smaller-then-tag : goal.loop-j-smaller-then-tag
-loop-j-smaller-then-tag c =
-    omega (arith, c.next-k.ensures.0, c.if-to-k.false)
+    sym (ahead-over _ _ _ _ _ _ inv.1 c.if-to-k.true (inside-ascends _ _ (node_laws.tabled c.args.set.now) c.args.shared p.0)) ∙ inv.0
 
 pub loop-j-preserved-then-tag : goal.loop-j-preserved-then-tag
 loop-j-preserved-then-tag c =
@@ -59,11 +31,6 @@ loop-j-preserved-then-tag c =
           (omega (arith, c.tag.ensures, c.tag-in-loop-j.ensures, c.if-tag.true)),
     )
 
-pub is_repeated-requires : goal.is_repeated-requires
-is_repeated-requires c =
-    let p = c.requires in
-    (p.0, (omega (arith, c.loop-j-test.true, c.next-end.ensures.1), c.next-to.ensures.1))
-
 pub returns-then-is_repeated : goal.returns-then-is_repeated
 returns-then-is_repeated c =
     let p = c.requires in
@@ -71,17 +38,8 @@ returns-then-is_repeated c =
     let inv = c.loop-j.invariant in
     let from = ahead-at _ _ _ _ _ _ inv.1 inside-j (omega (arith, c.if-to-k.false))
     (omega (arith, c.tag.ensures, c.tag-in-loop-j.ensures, c.if-tag.false)) in
-    let here = ahead-here _ _ _ _ _ _ inside-j inv.1 _ from (inside-ascends _ _ p.0 c.args.shared p.1.0) in
+    let here = ahead-here _ _ _ _ _ _ inside-j inv.1 _ from (inside-ascends _ _ (node_laws.tabled c.args.set.now) c.args.shared p.0) in
     sym (some-here _ _ _ _ inside-j (here ∙ sym c.is_repeated.ensures ∙ c.if-is_repeated.true)) ∙ inv.0
-
-pub next-j-requires : goal.next-j-requires
-next-j-requires c =
-    let p = c.requires in
-    (p.0, omega (arith, c.loop-j-test.true, c.next-end.ensures.1))
-
-pub loop-j-smaller : goal.loop-j-smaller
-loop-j-smaller c =
-    omega (arith, c.next-j.ensures.0, c.loop-j-test.true)
 
 pub loop-j-preserved : goal.loop-j-preserved
 loop-j-preserved c =
@@ -90,7 +48,7 @@ loop-j-preserved c =
     let inv = c.loop-j.invariant in
     let from = ahead-at _ _ _ _ _ _ inv.1 inside-j (omega (arith, c.if-to-k.false))
     (omega (arith, c.tag.ensures, c.tag-in-loop-j.ensures, c.if-tag.false)) in
-    let here = ahead-here _ _ _ _ _ _ inside-j inv.1 _ from (inside-ascends _ _ p.0 c.args.shared p.1.0) in
+    let here = ahead-here _ _ _ _ _ _ inside-j inv.1 _ from (inside-ascends _ _ (node_laws.tabled c.args.set.now) c.args.shared p.0) in
     rw c.next-j.ensures.0 (
       sym (some_next _ _ _ _ _ refl inside-j (here ∙ sym c.is_repeated.ensures ∙ c.if-is_repeated.false)) ∙ inv.0,
       ahead-next _ _ _ _ _ _ inside-j inv.1 _ from,

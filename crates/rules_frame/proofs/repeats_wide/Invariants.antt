@@ -9,8 +9,8 @@ use Rattle.rules_frame.proofs.repeats_wide.Given as goal
 
 abbrev pub invariant-loop-j : goal.invariant-loop-j
 invariant-loop-j l =
-    (some (is_shared (nodes_of l.bytes) l.shared) (members (nodes_of l.bytes) l.j l.end) ≡ repeats_shared (nodes_of l.bytes) l.shared l.item)
-    × Ahead (nodes_of l.bytes) l.shared l.j l.end l.k l.to
+    (some (is_shared (nodes_of l.set) l.shared) (members (nodes_of l.set) l.j l.end) ≡ repeats_shared (nodes_of l.set) l.shared l.item)
+    × Ahead (nodes_of l.set) l.shared l.j l.end l.k l.to
 
 abbrev pub decreases-loop-j : goal.decreases-loop-j
 decreases-loop-j l =

@@ -4,77 +4,19 @@ use Rattle.searches.specs.Searches.{frame_searches}
 use Rattle.searches.specs.Internal.{over_groups}
 use Rattle.searches.proofs.groups_over.Goals as goal
 
-pub overflow_add-result : goal.overflow_add-result
-overflow_add-result c =
-    omega (arith, c.over_frames.ensures.upper_bound, c.over_frames-2.ensures.upper_bound)
-
-pub overflow_add-result-2 : goal.overflow_add-result-2
-overflow_add-result-2 c =
-    omega (arith, c.over_frames.ensures.upper_bound, c.over_frames-2.ensures.upper_bound, c.over_frames-3.ensures.upper_bound)
-
-pub overflow_add-result-3 : goal.overflow_add-result-3
-overflow_add-result-3 c =
-    omega (
-      arith,
-      c.over_frames.ensures.upper_bound,
-      c.over_frames-2.ensures.upper_bound,
-      c.over_frames-3.ensures.upper_bound,
-      c.over_frames-4.ensures.upper_bound,
-    )
-
-pub overflow_add-result-4 : goal.overflow_add-result-4
-overflow_add-result-4 c =
-    omega (
-      arith,
-      c.over_frames.ensures.upper_bound,
-      c.over_frames-2.ensures.upper_bound,
-      c.over_frames-3.ensures.upper_bound,
-      c.over_frames-4.ensures.upper_bound,
-      c.over_frames-5.ensures.upper_bound,
-    )
-
-pub overflow_add-result-5 : goal.overflow_add-result-5
-overflow_add-result-5 c =
-    omega (
-      arith,
-      c.over_frames.ensures.upper_bound,
-      c.over_frames-2.ensures.upper_bound,
-      c.over_frames-3.ensures.upper_bound,
-      c.over_frames-4.ensures.upper_bound,
-      c.over_frames-5.ensures.upper_bound,
-      c.over_frames-6.ensures.upper_bound,
-    )
-
-pub over_frames-requires-7 : goal.over_frames-requires-7
-over_frames-requires-7 c =
-    (c.requires.0, (c.requires.1, omega arith))
-
-pub overflow_add-result-6 : goal.overflow_add-result-6
-overflow_add-result-6 c =
-    omega (
-      arith,
-      c.over_frames.ensures.upper_bound,
-      c.over_frames-2.ensures.upper_bound,
-      c.over_frames-3.ensures.upper_bound,
-      c.over_frames-4.ensures.upper_bound,
-      c.over_frames-5.ensures.upper_bound,
-      c.over_frames-6.ensures.upper_bound,
-      c.over_frames-7.ensures.upper_bound,
-    )
-
 pub returns : goal.returns
 unfolding over_groups frame_searches
 returns c =
     record {
       value = omega (
         arith,
-        c.over_frames.ensures.value,
-        c.over_frames-2.ensures.value,
-        c.over_frames-3.ensures.value,
-        c.over_frames-4.ensures.value,
-        c.over_frames-5.ensures.value,
-        c.over_frames-6.ensures.value,
-        c.over_frames-7.ensures.value,
+        rw (c.always.ensures.tag, c.always.ensures.always, c.always.ensures.reads) at c.over_frames.ensures.value,
+        rw (c.unless_here.ensures.tag, c.unless_here.ensures.always, c.unless_here.ensures.reads) at c.over_frames-2.ensures.value,
+        rw (c.unless_here-2.ensures.tag, c.unless_here-2.ensures.always, c.unless_here-2.ensures.reads) at c.over_frames-3.ensures.value,
+        rw (c.unless_here-3.ensures.tag, c.unless_here-3.ensures.always, c.unless_here-3.ensures.reads) at c.over_frames-4.ensures.value,
+        rw (c.unless_here-4.ensures.tag, c.unless_here-4.ensures.always, c.unless_here-4.ensures.reads) at c.over_frames-5.ensures.value,
+        rw (c.unless_here-5.ensures.tag, c.unless_here-5.ensures.always, c.unless_here-5.ensures.reads) at c.over_frames-6.ensures.value,
+        rw (c.unless_here-6.ensures.tag, c.unless_here-6.ensures.always, c.unless_here-6.ensures.reads) at c.over_frames-7.ensures.value,
       );
       upper_bound = omega (
         arith,

@@ -1,31 +1,24 @@
 -- Each turn looks at one member more and passes it while its tag is lower; tags ascend, so where the loop stops is where the search does.
-use mathlib.Core.Path.{refl, sym, ◌∙◌}
+use Rattle.node.proofs.Laws as node_laws
+use mathlib.Core.Path.{sym, ◌∙◌}
 use native.Mathlib.Omega.{arith}
 use Rattle.node.specs.Nodes.{nodes_of, members, node_at}
-use Rattle.node.proofs.Walks.{find-end, find-here, find-later}
+use Rattle.node.proofs.Walks.{members-end, members-next, find-end, find-here, find-later}
 use Rattle.node.proofs.Halves.{ascends-next, find_past}
 use Rattle.searches.proofs.Counting.{looked-end, looked-later, looked-here, looked-few, members-few}
 use Rattle.searches.proofs.look.Goals as goal
 
-pub loop-i-init : goal.loop-i-init
-loop-i-init c =
-    (refl, (omega arith, (0, c.requires.1.1)))
-
-pub tag-here-requires : goal.tag-here-requires
-tag-here-requires c =
-    (c.requires.0, omega (arith, c.loop-i-test.true, c.requires.1.0))
-
 pub overflow_add-count : goal.overflow_add-count
 overflow_add-count c =
     let a = c.args in
-    let ns = nodes_of a.bytes.now in
+    let ns = nodes_of a.set.now in
     omega (
       arith,
       c.loop-i.invariant.1.0,
       looked-few ns a.wanted (members ns a.from a.to),
       members-few ns a.from a.to,
-      c.requires.1.0,
-      c.requires.0.few,
+      c.requires.0,
+      (node_laws.tabled c.args.set.now).few,
     )
 
 pub returns-then-here-wanted : goal.returns-then-here-wanted
@@ -37,8 +30,7 @@ returns-then-here-wanted c =
       counts = omega (
         arith,
         inv.1.0,
-        looked-here (nodes_of c.args.bytes.now) c.args.wanted c.loop-i.i
-            c.args.to inv.1.1.0 inv.1.1.1 inside (omega (arith, c.tag-here.ensures, c.if-wanted-here.true)),
+        looked-here (nodes_of c.args.set.now) c.args.wanted _ _ _ (members-next (nodes_of c.args.set.now) c.loop-i.i c.args.to inside) inv.1.1.0 inv.1.1.1 (omega (arith, c.tag-here.ensures, c.if-wanted-here.true)),
       );
       within = inside;
     }
@@ -53,15 +45,10 @@ returns-else-here-wanted c =
       counts = omega (
         arith,
         inv.1.0,
-        looked-here (nodes_of c.args.bytes.now) c.args.wanted c.loop-i.i
-            c.args.to inv.1.1.0 inv.1.1.1 inside (omega (arith, c.tag-here.ensures, c.if-wanted-here.true)),
+        looked-here (nodes_of c.args.set.now) c.args.wanted _ _ _ (members-next (nodes_of c.args.set.now) c.loop-i.i c.args.to inside) inv.1.1.0 inv.1.1.1 (omega (arith, c.tag-here.ensures, c.if-wanted-here.true)),
       );
       within = tt;
     }
-
-pub next-i-requires : goal.next-i-requires
-next-i-requires c =
-    (c.requires.0, omega (arith, c.loop-i-test.true, c.requires.1.0))
 
 pub loop-i-preserved : goal.loop-i-preserved
 loop-i-preserved c =
@@ -73,10 +60,9 @@ loop-i-preserved c =
         omega (
           arith,
           inv.1.0,
-          looked-later (nodes_of c.args.bytes.now) c.args.wanted c.loop-i.i c.args.to
-              inside (omega (arith, c.tag-here.ensures, c.if-wanted-here.false)),
+          looked-later (nodes_of c.args.set.now) c.args.wanted _ _ _ (members-next (nodes_of c.args.set.now) c.loop-i.i c.args.to inside) (omega (arith, c.tag-here.ensures, c.if-wanted-here.false)),
         ),
-        ((node_at (nodes_of c.args.bytes.now) c.loop-i.i).tag, ascends-next _ _ _ inv.1.1.0 inside inv.1.1.1),
+        ((node_at (nodes_of c.args.set.now) c.loop-i.i).tag, ascends-next _ _ _ inv.1.1.0 inside inv.1.1.1),
       ),
     )
 
@@ -88,7 +74,7 @@ returns c =
       counts = omega (
         arith,
         inv.1.0,
-        looked-end (nodes_of c.args.bytes.now) c.args.wanted c.loop-i.i c.args.to c.loop-i-test.false,
+        looked-end (nodes_of c.args.set.now) c.args.wanted _ (members-end (nodes_of c.args.set.now) c.loop-i.i c.args.to c.loop-i-test.false),
       );
       within = tt;
     }

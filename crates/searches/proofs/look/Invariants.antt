@@ -9,10 +9,10 @@ use Rattle.searches.proofs.look.Given as goal
 
 abbrev pub invariant-loop-i : goal.invariant-loop-i
 invariant-loop-i l =
-    (find (nodes_of l.bytes) l.wanted (members (nodes_of l.bytes) l.i l.to) ≡ find (nodes_of l.bytes) l.wanted (members (nodes_of l.bytes) l.from l.to))
-    × ((l.count + looked_at (nodes_of l.bytes) l.wanted (members (nodes_of l.bytes) l.i l.to)
-    ≡ looked_at (nodes_of l.bytes) l.wanted (members (nodes_of l.bytes) l.from l.to))
-    × ((least : ℕ) × Ascends (nodes_of l.bytes) least (members (nodes_of l.bytes) l.i l.to)))
+    (find (nodes_of l.set) l.wanted (members (nodes_of l.set) l.i l.to) ≡ find (nodes_of l.set) l.wanted (members (nodes_of l.set) l.from l.to))
+    × ((l.count + looked_at (nodes_of l.set) l.wanted (members (nodes_of l.set) l.i l.to)
+    ≡ looked_at (nodes_of l.set) l.wanted (members (nodes_of l.set) l.from l.to))
+    × ((least : ℕ) × Ascends (nodes_of l.set) least (members (nodes_of l.set) l.i l.to)))
 
 abbrev pub decreases-loop-i : goal.decreases-loop-i
 decreases-loop-i l =

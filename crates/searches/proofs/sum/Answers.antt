@@ -1,4 +1,5 @@
 -- The root, the mask items and the frames are the three parts of the definition; the order of the root's tags counts nothing.
+use Rattle.node.proofs.Laws as node_laws
 use native.Mathlib.Omega.{arith}
 use Rattle.node.specs.Nodes.{nodes_of, members}
 use Rattle.node.proofs.Halves.{root-ascends}
@@ -10,33 +11,30 @@ use Rattle.searches.proofs.sum.Goals as goal
 pub look_along-requires : goal.look_along-requires
 unfolding root_order
 look_along-requires c = (
-  c.requires,
-  (
-    omega (arith, c.count-end.ensures.0),
-    (rw c.count-end.ensures.0 (root-ascends _ _ c.requires), (omega arith, root-rises)),
-  ),
+  omega (arith, c.count-end.ensures.0),
+  (rw c.count-end.ensures.0 (root-ascends _ _ (node_laws.tabled c.args.set.now)), (omega arith, root-rises)),
 )
 
 pub overflow_add-result : goal.overflow_add-result
 unfolding root_order mask_tags mask_searches
 overflow_add-result c =
-    let s = c.args.bytes.now in
+    let s = c.args.set.now in
     omega (
       arith,
-      root-fits s c.requires.few c.look_along.result c.count-end.result
+      root-fits s (node_laws.tabled c.args.set.now).few c.look_along.result c.count-end.result
           (omega (arith, c.count-end.ensures.0)) c.look_along.ensures,
-      masks-fit s c.requires.few c.look_each.result c.mask_items-masks.result.at c.mask_items-masks.result.end c.mask_items-masks.ensures.inner c.look_each.ensures,
+      masks-fit s (node_laws.tabled c.args.set.now).few c.look_each.result c.mask_items-masks.result.at c.mask_items-masks.result.end c.mask_items-masks.ensures.inner c.look_each.ensures,
     )
 
 pub overflow_add-result-2 : goal.overflow_add-result-2
 unfolding root_order mask_tags mask_searches
 overflow_add-result-2 c =
-    let s = c.args.bytes.now in
+    let s = c.args.set.now in
     omega (
       arith,
-      root-fits s c.requires.few c.look_along.result c.count-end.result
+      root-fits s (node_laws.tabled c.args.set.now).few c.look_along.result c.count-end.result
           (omega (arith, c.count-end.ensures.0)) c.look_along.ensures,
-      masks-fit s c.requires.few
+      masks-fit s (node_laws.tabled c.args.set.now).few
           c.look_each.result c.mask_items-masks.result.at c.mask_items-masks.result.end c.mask_items-masks.ensures.inner c.look_each.ensures,
       c.frames_sum.ensures.upper_bound,
     )
@@ -44,7 +42,7 @@ overflow_add-result-2 c =
 pub returns : goal.returns
 unfolding root_order mask_tags mask_searches searches_of
 returns c =
-    let ns = nodes_of c.args.bytes.now in
+    let ns = nodes_of c.args.set.now in
     omega (
       arith,
       c.look_along.ensures,

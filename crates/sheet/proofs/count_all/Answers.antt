@@ -4,31 +4,23 @@ use Prim.Native.Nat.{ℕ}
 use native.Mathlib.Omega.{arith}
 use lib.ListN.{length-replicate}
 use Rattle.display.proofs.Scenes as scenes
-use Rattle.basics.specs.Limits.{most_masks}
 use Rattle.sheet.proofs.Scenes as counted
 use Rattle.sheet.proofs.count_all.Goals as goal
 
 pub apply_all-requires : goal.apply_all-requires
 apply_all-requires c = (
-  c.requires.0.table,
-  (
-    record {
-      few = omega (arith, scenes.few-frames c.args.bytes.now c.args.n c.requires.0.object);
-      marks = omega (arith, c.requires.1.above);
-      frames = omega (
-        arith,
-        scenes.few-frames c.args.bytes.now c.args.n
-            c.requires.0.object,
-        length-replicate {A = ℕ} 65536 0,
-      );
-    },
-    counted.answering c.args.bytes.now c.args.n c.requires.0.object,
-  ),
+  record {
+    few = omega (arith, scenes.few-frames c.args.set.now c.args.n c.requires.0.object);
+    marks = omega (arith, c.requires.1.above);
+    frames = omega (
+      arith,
+      scenes.few-frames c.args.set.now c.args.n
+          c.requires.0.object,
+      length-replicate {A = ℕ} 65536 0,
+    );
+  },
+  counted.answering c.args.set.now c.args.n c.requires.0.object,
 )
-
-pub tell_all-requires : goal.tell_all-requires
-tell_all-requires c =
-    (c.requires.0.table, (omega (arith, length-replicate {A = ℕ} most_masks 0), omega (arith, length-replicate {A = ℕ} most_masks 0)))
 
 pub count_frames-requires : goal.count_frames-requires
 count_frames-requires c = (
@@ -46,11 +38,9 @@ count_frames-requires c = (
         arith,
         c.which-2-1.given,
         length-replicate {A = ℕ} 65536 0,
-        scenes.few-frames c.args.bytes.now c.args.n c.requires.0.object,
+        scenes.few-frames c.args.set.now c.args.n c.requires.0.object,
       );
-      known = c.tell_all.ensures;
-      key-room = omega (arith, c.keys-2-1.given, length-replicate {A = ℕ} most_masks 0);
-      answer-room = omega (arith, c.answers-2-1.given, length-replicate {A = ℕ} most_masks 0);
+      is-known = c.tell_all-known.ensures;
     },
   ),
 )

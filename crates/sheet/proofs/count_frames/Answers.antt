@@ -14,15 +14,9 @@ use Rattle.sheet.proofs.count_frames.Goals as goal
 
 pub nothing-sofar-requires : goal.nothing-sofar-requires
 nothing-sofar-requires c =
-    (based c.args.bytes.now c.args.n c.args.a c.requires.0.object c.requires.0.low
+    (based c.args.set.now c.args.n c.args.a c.requires.0.object c.requires.0.low
     (omega (arith, c.requires.0.order, c.requires.0.high)) c.args.c
     c.requires.0.scene).shape.stored-most
-
-pub overflow_add-end : goal.overflow_add-end
-overflow_add-end c =
-    record {
-      fits = omega (arith, c.requires.0.high, few-frames c.args.bytes.now c.args.n c.requires.0.object);
-    }
 
 pub loop-frame-init : goal.loop-frame-init
 loop-frame-init c =
@@ -33,14 +27,14 @@ loop-frame-init c =
         (
           c.requires.0.items,
           (
-            ap (tallied (levels_of (nodes_of c.args.bytes.now) c.args.a (c.args.b + 1 - c.args.a)))
+            ap (tallied (levels_of (nodes_of c.args.set.now) c.args.a (c.args.b + 1 - c.args.a)))
                 c.nothing-sofar.ensures.counts-are
-                ∙ (counts-are (levels_of (nodes_of c.args.bytes.now) c.args.a (c.args.b + 1 - c.args.a))
-                ∙ ap (λ (k : ℕ). counts_of (levels_of (nodes_of c.args.bytes.now) c.args.a k)) z),
+                ∙ (counts-are (levels_of (nodes_of c.args.set.now) c.args.a (c.args.b + 1 - c.args.a))
+                ∙ ap (λ (k : ℕ). counts_of (levels_of (nodes_of c.args.set.now) c.args.a k)) z),
             (
-              omega (arith, c.nothing-sofar.ensures.natives-are, ap (natives_of (nodes_of c.args.bytes.now) c.args.a) z),
+              omega (arith, c.nothing-sofar.ensures.natives-are, ap (natives_of (nodes_of c.args.set.now) c.args.a) z),
               (
-                room-start _ _ c.nothing-sofar.ensures.counts-are (cells-few c.args.bytes.now c.args.n
+                room-start _ _ c.nothing-sofar.ensures.counts-are (cells-few c.args.set.now c.args.n
                     c.requires.0.object
                     (omega (arith, c.requires.0.low, c.requires.0.order, c.requires.0.high))
                     c.args.c
@@ -56,21 +50,18 @@ loop-frame-init c =
 
 pub item_here-item-requires : goal.item_here-item-requires
 item_here-item-requires c =
-    (c.requires.0.table, (c.loop-frame.invariant.1.1.0, omega (arith, c.loop-frame.invariant.0, c.requires.0.low)))
+    (c.loop-frame.invariant.1.1.0, omega (arith, c.loop-frame.invariant.0, c.requires.0.low))
 
 pub plan_at-own-requires : goal.plan_at-own-requires
 plan_at-own-requires c = (
-  c.requires.0.table,
+  c.requires.0.object,
   (
-    c.requires.0.object,
+    c.requires.0.scene,
     (
-      c.requires.0.scene,
+      c.item_here-item.ensures,
       (
-        c.item_here-item.ensures,
-        (
-          omega (arith, c.loop-frame.invariant.0, c.requires.0.low),
-          (omega (arith, c.loop-frame-test.true, c.requires.0.high), c.requires.1.1),
-        ),
+        omega (arith, c.loop-frame.invariant.0, c.requires.0.low),
+        (omega (arith, c.loop-frame-test.true, c.requires.0.high), c.requires.1.1),
       ),
     ),
   ),
@@ -79,7 +70,6 @@ plan_at-own-requires c = (
 pub count_picture-next-requires : goal.count_picture-next-requires
 count_picture-next-requires c = (
   record {
-    table = c.requires.0.table;
     object = c.requires.0.object;
     scene = c.requires.0.scene;
     plan = c.plan_at-own.ensures;
@@ -99,13 +89,13 @@ count_picture-next-requires c = (
         omega (
           arith,
           c.loop-frame.invariant.1.1.1.1.0,
-          frames.natives-few (nodes_of c.args.bytes.now) c.args.a (c.args.b - c.args.a + 1),
-          few-frames c.args.bytes.now c.args.n c.requires.0.object,
+          frames.natives-few (nodes_of c.args.set.now) c.args.a (c.args.b - c.args.a + 1),
+          few-frames c.args.set.now c.args.n c.requires.0.object,
           c.requires.0.high,
           c.requires.0.low,
         ),
         frames.room-one c.loop-frame.frame (c.args.b + 1)
-            (image_size (nodes_of c.args.bytes.now)) c.loop-frame.sofar.counts c.loop-frame-test.true
+            (image_size (nodes_of c.args.set.now)) c.loop-frame.sofar.counts c.loop-frame-test.true
             c.loop-frame.invariant.1.1.1.1.1.0,
       ),
     ),
@@ -114,7 +104,7 @@ count_picture-next-requires c = (
 
 pub advance-items-requires : goal.advance-items-requires
 advance-items-requires c =
-    (c.requires.0.table, c.loop-frame.invariant.1.1.0.inner)
+    c.loop-frame.invariant.1.1.0.inner
 
 pub overflow_step-frame : goal.overflow_step-frame
 overflow_step-frame c =
@@ -123,36 +113,32 @@ overflow_step-frame c =
         arith,
         c.loop-frame-test.true,
         c.requires.0.high,
-        few-frames c.args.bytes.now c.args.n c.requires.0.object,
+        few-frames c.args.set.now c.args.n c.requires.0.object,
       );
     }
 
-pub loop-frame-smaller : goal.loop-frame-smaller
-loop-frame-smaller c =
-    omega (arith, c.loop-frame-test.true)
-
 pub loop-frame-preserved : goal.loop-frame-preserved
 loop-frame-preserved c =
-    let m = picture-cells c.args.bytes.now c.args.n c.loop-frame.frame c.requires.0.object
+    let m = picture-cells c.args.set.now c.args.n c.loop-frame.frame c.requires.0.object
     (omega (arith, c.loop-frame.invariant.0, c.requires.0.low))
     (omega (arith, c.loop-frame-test.true, c.requires.0.high)) in (
       omega (arith, c.loop-frame.invariant.0),
       (
         omega (arith, c.loop-frame-test.true),
         (
-          along-more (nodes_of c.args.bytes.now) 1 c.loop-frame.frame
+          along-more (nodes_of c.args.set.now) 1 c.loop-frame.frame
               (omega (arith, c.loop-frame.invariant.0, c.requires.0.low)) c.loop-frame.invariant.1.1.0 c.advance-items.ensures,
           (
-            frames.frames-more (nodes_of c.args.bytes.now) c.loop-frame.frame (c.args.b + 1)
+            frames.frames-more (nodes_of c.args.set.now) c.loop-frame.frame (c.args.b + 1)
                 c.loop-frame.sofar.counts _
                 c.loop-frame-test.true c.count_picture-next.ensures.0 ∙ c.loop-frame.invariant.1.1.1.0,
             (
-              frames.natives-more (nodes_of c.args.bytes.now) c.loop-frame.frame (c.args.b + 1)
+              frames.natives-more (nodes_of c.args.set.now) c.loop-frame.frame (c.args.b + 1)
                   c.loop-frame.sofar.natives
                   _ c.loop-frame-test.true c.count_picture-next.ensures.1.0 ∙ c.loop-frame.invariant.1.1.1.1.0,
               (
-                frames.room-rest c.loop-frame.frame (c.args.b + 1) (image_size (nodes_of c.args.bytes.now))
-                    (picture_of (nodes_of c.args.bytes.now) c.loop-frame.frame).samples c.loop-frame.sofar.counts _
+                frames.room-rest c.loop-frame.frame (c.args.b + 1) (image_size (nodes_of c.args.set.now))
+                    (picture_of (nodes_of c.args.set.now) c.loop-frame.frame).samples c.loop-frame.sofar.counts _
                     c.loop-frame-test.true m c.count_picture-next.ensures.0 c.loop-frame.invariant.1.1.1.1.1.0,
                 (
                   c.count_picture-next.ensures.1.1,
@@ -192,8 +178,8 @@ shape_of-line c =
 
 pub returns : goal.returns
 returns c = (
-  sym (frames.frames-none (nodes_of c.args.bytes.now) c.loop-frame.frame (c.args.b + 1)
+  sym (frames.frames-none (nodes_of c.args.set.now) c.loop-frame.frame (c.args.b + 1)
       c.loop-frame.sofar.counts c.loop-frame-test.false) ∙ c.loop-frame.invariant.1.1.1.0,
-  sym (frames.natives-none (nodes_of c.args.bytes.now) c.loop-frame.frame (c.args.b + 1)
+  sym (frames.natives-none (nodes_of c.args.set.now) c.loop-frame.frame (c.args.b + 1)
       c.loop-frame.sofar.natives c.loop-frame-test.false) ∙ c.loop-frame.invariant.1.1.1.1.0,
 )

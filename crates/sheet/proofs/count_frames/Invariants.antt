@@ -12,13 +12,9 @@ use Rattle.sheet.proofs.count_frames.Given as goal
 
 abbrev pub invariant-loop-frame : goal.invariant-loop-frame
 invariant-loop-frame l =
-    (l.a ≤ l.frame) × ((l.frame ≤ l.b + 1) × (Along (nodes_of l.bytes) (drop (l.frame - 1) (frame_items (nodes_of l.bytes))) l.items
-    × ((tallied (levels_of (nodes_of l.bytes) l.frame (l.b + 1 - l.frame)) l.sofar.counts ≡ counts_of (levels_of (nodes_of l.bytes) l.a (l.b - l.a + 1)))
-    × ((l.sofar.natives + natives_of (nodes_of l.bytes) l.frame (l.b + 1 - l.frame) ≡ natives_of (nodes_of l.bytes) l.a (l.b - l.a + 1))
-    × (Room l.sofar.counts ((l.b + 1 - l.frame) * image_size (nodes_of l.bytes)) × (IsHeld l.c.g.stored l.c.inverse l.sofar.held l.table
+    (l.a ≤ l.frame) × ((l.frame ≤ l.b + 1) × (Along (nodes_of l.set) (drop (l.frame - 1) (frame_items (nodes_of l.set))) l.items
+    × ((tallied (levels_of (nodes_of l.set) l.frame (l.b + 1 - l.frame)) l.sofar.counts ≡ counts_of (levels_of (nodes_of l.set) l.a (l.b - l.a + 1)))
+    × ((l.sofar.natives + natives_of (nodes_of l.set) l.frame (l.b + 1 - l.frame) ≡ natives_of (nodes_of l.set) l.a (l.b - l.a + 1))
+    × (Room l.sofar.counts ((l.b + 1 - l.frame) * image_size (nodes_of l.set)) × (IsHeld l.c.g.stored l.c.inverse l.sofar.held l.table
     × ((length l.table ≡ length l.initial.table)
     × ((length l.upper ≡ length l.initial.upper) × ((length l.lower ≡ length l.initial.lower) × ((length l.line ≡ length l.initial.line)))))))))))
-
-abbrev pub decreases-loop-frame : goal.decreases-loop-frame
-decreases-loop-frame l =
-    l.end - l.frame

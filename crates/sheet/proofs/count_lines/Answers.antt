@@ -74,10 +74,6 @@ pub overflow_step-row : goal.overflow_step-row
 overflow_step-row c =
     omega (arith, c.loop-row-test.true, c.requires.0.shape.rows-most)
 
-pub loop-row-smaller : goal.loop-row-smaller
-loop-row-smaller c =
-    omega (arith, c.loop-row-test.true)
-
 pub loop-row-preserved : goal.loop-row-preserved
 loop-row-preserved c = (
   omega (arith, c.loop-row-test.true),

@@ -1,6 +1,6 @@
 -- Lines follow one another in the picture, so r lines counted are its first r · columns cells counted; each line leaves what the next one
 -- takes by the same way.
-use Prim.Native.Nat.{◌-◌, ◌*◌, ◌≤◌}
+use Prim.Native.Nat.{◌*◌, ◌≤◌}
 use lib.ListN.{length}
 use Rattle.value.specs.Number.{us_values}
 use Rattle.lines.specs.Internal.{shades_of, WayReady, way_shade}
@@ -14,7 +14,3 @@ invariant-loop-row l =
     (l.row ≤ l.g.rows) × ((length l.upper ≡ length l.initial.upper) × ((length l.lower ≡ length l.initial.lower)
     × (WayReady l.way l.pixels l.g l.masks l.shades.filled l.row l.upper l.lower × ((length l.line ≡ length l.initial.line)
     × (l.sofar ≡ tallied (up_to (way_shade l.way (shades_of l.shades l.g.stored) l.g l.pixels l.frame (us_values l.masks)) (l.row * l.g.columns)) l.initial.sofar)))))
-
-abbrev pub decreases-loop-row : goal.decreases-loop-row
-decreases-loop-row l =
-    l.height - l.row

@@ -12,8 +12,8 @@ use mathlib.Core.Path.{sym, ap, ◌∙◌}
 use native.Mathlib.Omega.{arith}
 use Rattle.sheet.proofs.count_picture.Goals as goal
 
-pub overflow_mul-cells : goal.overflow_mul-cells
-overflow_mul-cells c =
+pub overflow_mul-c : goal.overflow_mul-c
+overflow_mul-c c =
     let b = planned.based c.requires.0 in
     omega (
       arith,
@@ -47,31 +47,24 @@ shades_for-held-requires c =
 pub count_frame-counts-requires : goal.count_frame-counts-requires
 count_frame-counts-requires c =
     let b = planned.based c.requires.0 in (
-      c.requires.0.table,
+      planned.is-pixels c.requires.0,
       (
-        planned.is-pixels c.requires.0,
+        record {
+          shape = b.shape;
+          inside = b.inside;
+          shaded = c.shades_for-held.ensures.1.shaded;
+          above = c.requires.1.0.above;
+          below = c.requires.1.0.below;
+          wide = c.requires.1.0.wide;
+        },
         (
-          record {
-            shape = b.shape;
-            inside = b.inside;
-            shaded = c.shades_for-held.ensures.1.shaded;
-            above = c.requires.1.0.above;
-            below = c.requires.1.0.below;
-            wide = c.requires.1.0.wide;
-          },
-          (
-            planned.masks-ready c.requires.0,
-            counted.room_for c.args.bytes.now c.args.n c.args.frame c.requires.0.object c.requires.0.low
-                c.requires.0.high c.args.c c.requires.0.scene c.args.sofar.counts
-                c.requires.1.1.1.1,
-          ),
+          planned.masks-ready c.requires.0,
+          counted.room_for c.args.set.now c.args.n c.args.frame c.requires.0.object c.requires.0.low
+              c.requires.0.high c.args.c c.requires.0.scene c.args.sofar.counts
+              c.requires.1.1.1.1,
         ),
       ),
     )
-
-pub overflow_add-natives : goal.overflow_add-natives
-overflow_add-natives c =
-    omega (arith, c.native_number.ensures, one-most (is_masked c.args.own.masking), c.requires.1.1.1.0)
 
 pub returns : goal.returns
 returns c =

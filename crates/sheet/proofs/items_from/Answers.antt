@@ -5,17 +5,13 @@ use Rattle.conformance.proofs.Loops.{along-more}
 use native.Mathlib.Omega.{arith}
 use Rattle.sheet.proofs.items_from.Goals as goal
 
-pub frame_items-items-requires : goal.frame_items-items-requires
-frame_items-items-requires c =
-    c.requires.0
-
 pub loop-frame-init : goal.loop-frame-init
 loop-frame-init c =
-    (omega arith, (c.requires.1, c.frame_items-items.ensures))
+    (omega arith, (c.requires, c.frame_items-items.ensures))
 
 pub advance-items-requires : goal.advance-items-requires
 advance-items-requires c =
-    (c.requires.0, c.loop-frame.invariant.1.1.inner)
+    c.loop-frame.invariant.1.1.inner
 
 pub loop-frame-smaller : goal.loop-frame-smaller
 loop-frame-smaller c =
@@ -27,7 +23,7 @@ loop-frame-preserved c = (
   (
     omega (arith, c.loop-frame-test.true),
     along-more
-        (nodes_of c.args.bytes.now) 1 c.loop-frame.frame c.loop-frame.invariant.0
+        (nodes_of c.args.set.now) 1 c.loop-frame.frame c.loop-frame.invariant.0
         c.loop-frame.invariant.1.1 c.advance-items.ensures,
   ),
 )

@@ -8,7 +8,7 @@ use Rattle.sheet.proofs.items_from.Given as goal
 
 abbrev pub invariant-loop-frame : goal.invariant-loop-frame
 invariant-loop-frame l =
-    (1 ≤ l.frame) × ((l.frame ≤ l.a) × Along (nodes_of l.bytes) (drop (l.frame - 1) (frame_items (nodes_of l.bytes))) l.items)
+    (1 ≤ l.frame) × ((l.frame ≤ l.a) × Along (nodes_of l.set) (drop (l.frame - 1) (frame_items (nodes_of l.set))) l.items)
 
 abbrev pub decreases-loop-frame : goal.decreases-loop-frame
 decreases-loop-frame l =

@@ -9,22 +9,21 @@ use Rattle.sheet.proofs.sample_frames.Goals as goal
 
 pub scene_of-c-requires : goal.scene_of-c-requires
 scene_of-c-requires c =
-    (c.requires.0, c.requires.1.0)
+    c.requires.0
 
 pub items_from-start-requires : goal.items_from-start-requires
 items_from-start-requires c =
-    (c.requires.0, c.requires.1.1.0)
+    c.requires.1.0
 
 pub count_all-done-requires : goal.count_all-done-requires
 count_all-done-requires c = (
   record {
-    table = c.requires.0;
-    object = c.requires.1.0;
+    object = c.requires.0;
     scene = c.scene_of-c.ensures;
     items = c.items_from-start.ensures;
-    low = c.requires.1.1.0;
-    order = c.requires.1.1.1.0;
-    high = c.requires.1.1.1.1;
+    low = c.requires.1.0;
+    order = c.requires.1.1.0;
+    high = c.requires.1.1.1;
   },
   record {
     shades = length-replicate {A = ℕ} shade_places 0;
@@ -36,13 +35,13 @@ count_all-done-requires c = (
 
 pub weighted-requires : goal.weighted-requires
 weighted-requires c =
-    sampling.few-counts c.args.bytes.now c.args.n c.args.a c.args.b c.requires.1.0
-    c.requires.1.1.0 c.requires.1.1.1.0 c.requires.1.1.1.1 _ c.scene_of-c.ensures _
+    sampling.few-counts c.args.set.now c.args.n c.args.a c.args.b c.requires.0
+    c.requires.1.0 c.requires.1.1.0 c.requires.1.1.1 _ c.scene_of-c.ensures _
     c.count_all-done.ensures.0
 
 pub returns : goal.returns
 returns c =
-    sampling.made c.args.bytes.now c.args.n c.args.a c.args.b c.requires.1.0 c.requires.1.1.0
-    c.requires.1.1.1.0 c.requires.1.1.1.1 _ _ _ _ _ c.count_all-done.ensures.0
+    sampling.made c.args.set.now c.args.n c.args.a c.args.b c.requires.0 c.requires.1.0
+    c.requires.1.1.0 c.requires.1.1.1 _ _ _ _ _ c.count_all-done.ensures.0
     c.count_all-done.ensures.1 c.first_drawn.ensures c.last_drawn.ensures
     c.weighted.ensures

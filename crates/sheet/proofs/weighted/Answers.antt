@@ -2,7 +2,6 @@
 use Prim.Native.Nat.{ℕ, ◌+◌, ◌*◌}
 use lib.ListN.{get_or}
 use native.Mathlib.Nat.{mul-le-mul}
-use Rattle.pixel.proofs.Laws.{full}
 use Rattle.sheet.specs.Sampling.{total}
 use Rattle.sheet.proofs.Counts.{total-more, total-most}
 use mathlib.Core.Path.{refl, ap, ◌∙◌}
@@ -12,53 +11,24 @@ use Rattle.sheet.proofs.weighted.Goals as goal
 pub loop-y-init : goal.loop-y-init
 unfolding total
 loop-y-init c =
-    (omega arith, refl)
-
-pub offset_bounds-counts-y : goal.offset_bounds-counts-y
-offset_bounds-counts-y c =
-    omega (arith, c.loop-y-test.true)
-
-pub bounds-counts-y : goal.bounds-counts-y
-bounds-counts-y c =
-    omega (arith, c.loop-y-test.true)
-
-pub overflow_mul-sum : goal.overflow_mul-sum
-overflow_mul-sum c =
-    omega (
-      arith,
-      mul-le-mul {n₁ = c.loop-y.y} {m₁ = get_or c.args.counts c.loop-y.y 0} {n₂ = 255}
-          {m₂ = 281474976710656} (omega (arith, c.loop-y-test.true)) (c.requires.below c.loop-y.y),
-    )
+    refl
 
 pub overflow_add-sum : goal.overflow_add-sum
 overflow_add-sum c =
-    omega (
-      arith,
-      c.loop-y.invariant.1,
-      c.loop-y-test.true,
-      total-most (λ i. i * get_or c.args.counts i 0)
-          c.loop-y.y 71776119061217280 (λ i h. mul-le-mul {n₁ = i} {m₁ = get_or c.args.counts i 0} {n₂ = 255}
-          {m₂ = 281474976710656} (omega (arith, h, c.loop-y-test.true)) (c.requires.below i)),
-      mul-le-mul
-          {n₁ = c.loop-y.y} {m₁ = get_or c.args.counts c.loop-y.y 0} {n₂ = 255} {m₂ = 281474976710656}
-          (omega (arith, c.loop-y-test.true)) (c.requires.below c.loop-y.y),
-    )
-
-pub overflow_step-y : goal.overflow_step-y
-overflow_step-y c =
-    omega (arith, c.loop-y-test.true)
-
-pub loop-y-smaller : goal.loop-y-smaller
-loop-y-smaller c =
-    omega (arith, c.loop-y-test.true)
+    record {
+      fits = omega (
+        arith,
+        c.loop-y.invariant,
+        total-most (λ i. i * get_or c.args.counts i 0)
+            c.loop-y.y 71776119061217280 (λ i h. mul-le-mul {n₁ = i} {m₁ = get_or c.args.counts i 0} {n₂ = 255}
+            {m₂ = 281474976710656} (omega (arith, h, c.loop-y-test.true)) (c.requires.below i)),
+        mul-le-mul
+            {n₁ = c.loop-y.y} {m₁ = get_or c.args.counts c.loop-y.y 0} {n₂ = 255} {m₂ = 281474976710656}
+            (omega (arith, c.loop-y-test.true)) (c.requires.below c.loop-y.y),
+      );
+    }
 
 pub loop-y-preserved : goal.loop-y-preserved
-loop-y-preserved c = (
-  omega (arith, c.loop-y-test.true),
-  ap (λ (s : ℕ). s + c.loop-y.y * get_or c.args.counts c.loop-y.y 0) c.loop-y.invariant.1
-      ∙ total-more (λ i. i * get_or c.args.counts i 0) c.loop-y.y,
-)
-
-pub returns : goal.returns
-returns c =
-    rw (full c.loop-y.invariant.0 c.loop-y-test.false) at c.loop-y.invariant.1
+loop-y-preserved c =
+    ap (λ (s : ℕ). s + c.loop-y.y * get_or c.args.counts c.loop-y.y 0) c.loop-y.invariant
+    ∙ total-more (λ i. i * get_or c.args.counts i 0) c.loop-y.y

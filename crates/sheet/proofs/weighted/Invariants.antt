@@ -1,5 +1,5 @@
 -- No count is above 2^48, so that 256 products with a level add up to less than 2^64.
-use Prim.Native.Nat.{◌-◌, ◌*◌, ◌≤◌}
+use Prim.Native.Nat.{◌*◌}
 use lib.ListN.{get_or}
 use Rattle.sheet.specs.Sampling.{total}
 use mathlib.Core.Path.{◌≡◌}
@@ -7,8 +7,4 @@ use Rattle.sheet.proofs.weighted.Given as goal
 
 abbrev pub invariant-loop-y : goal.invariant-loop-y
 invariant-loop-y l =
-    (l.y ≤ 256) × (l.sum ≡ total (λ i. i * get_or l.counts i 0) l.y)
-
-abbrev pub decreases-loop-y : goal.decreases-loop-y
-decreases-loop-y l =
-    256 - l.y
+    l.sum ≡ total (λ i. i * get_or l.fn.counts i 0) l.y

@@ -8,8 +8,8 @@ pub returns : goal.returns
 returns c =
     let s = c.args.s.now in
     simp (
-      c.wide-code.ensures.0 ∙ sym (byte-is s code_place),
-      c.wide-rule.ensures.0 ∙ sym (byte-is s rule_place),
-      c.u16_at-frame.ensures.0 ∙ le16-is s frame_place,
-      c.u32_at-offset.ensures.0 ∙ le32-is s offset_place,
+      c.into.ensures ∙ sym (byte-is s code_place),
+      c.into-2.ensures ∙ sym (byte-is s rule_place),
+      c.u16_at.ensures.0 ∙ le16-is s frame_place,
+      c.u32_at.ensures.0 ∙ le32-is s offset_place,
     )

@@ -6,12 +6,12 @@ use Rattle.slip.specs.Slip.{rows_place, if_possible, read_sized}
 use Rattle.basics.proofs.Bytes.{le32-is}
 use Rattle.slip.proofs.read_new.Goals as goal
 
-pub returns-then-slip-eq-SIZE : goal.returns-then-slip-eq-SIZE
+pub returns-then-slip-ne-SIZE : goal.returns-then-slip-ne-SIZE
 unfolding read_sized
-returns-then-slip-eq-SIZE c =
-    let rows = c.u32_at-n.ensures.0 ∙ le32-is c.args.slip.now rows_place in
-    simp (eq-eqb _ _ c.if-slip-eq-SIZE.true, sym rows) (c.if_possible.ensures ∙ ap if_possible c.fields.ensures)
+returns-then-slip-ne-SIZE c = simp (ne_eqb _ _ c.if-slip-ne-SIZE.true)
 
-pub returns-else-slip-eq-SIZE : goal.returns-else-slip-eq-SIZE
+pub returns : goal.returns
 unfolding read_sized
-returns-else-slip-eq-SIZE c = simp (ne_eqb _ _ c.if-slip-eq-SIZE.false)
+returns c =
+    let rows = c.u32_at.ensures.0 ∙ le32-is c.args.slip.now rows_place in
+    simp (eq-eqb _ _ c.if-slip-ne-SIZE.false, sym rows) (c.if_possible.ensures ∙ ap if_possible c.fields.ensures)

@@ -4,11 +4,10 @@ use borrow.Author.Tests.{eq-eqb, ne_eqb}
 use Rattle.slip.specs.Slip.{if_possible, read_sized}
 use Rattle.slip.proofs.read_old.Goals as goal
 
-pub returns-then-slip-eq-OLD_SIZE : goal.returns-then-slip-eq-OLD_SIZE
+pub returns-then-slip-ne-OLD_SIZE : goal.returns-then-slip-ne-OLD_SIZE
 unfolding read_sized
-returns-then-slip-eq-OLD_SIZE c =
-    simp (eq-eqb _ _ c.if-slip-eq-OLD_SIZE.true) (c.if_possible.ensures ∙ ap if_possible c.fields.ensures)
+returns-then-slip-ne-OLD_SIZE c = simp (ne_eqb _ _ c.if-slip-ne-OLD_SIZE.true)
 
-pub returns-else-slip-eq-OLD_SIZE : goal.returns-else-slip-eq-OLD_SIZE
+pub returns : goal.returns
 unfolding read_sized
-returns-else-slip-eq-OLD_SIZE c = simp (ne_eqb _ _ c.if-slip-eq-OLD_SIZE.false)
+returns c = simp (eq-eqb _ _ c.if-slip-ne-OLD_SIZE.false) (c.if_possible.ensures ∙ ap if_possible c.fields.ensures)

@@ -3,12 +3,6 @@ use mathlib.Core.Path.{sym, ◌∙◌}
 use Rattle.value.specs.Words.{function_of}
 use Rattle.value.proofs.function_of.Goals as goal
 
--- LOST slice-aggregate-is-word : tie.Need-slice-aggregate-is-word
--- slice-aggregate-is-word c = search rules
-
--- LOST slice-aggregate-is-word-2 : tie.Need-slice-aggregate-is-word-2
--- slice-aggregate-is-word-2 c = search rules
-
 pub returns-then-is_word : goal.returns-then-is_word
 unfolding function_of
 returns-then-is_word c =

@@ -10,8 +10,8 @@ unfolding integer_of
 returns-then-is_single c =
     let e : c.signed_whole.result ≡ integer_of c.args.v.now = rw (
       c.signed_whole.ensures,
-      c.trimmed-t.ensures,
-      c.value_of-p.ensures,
+      c.trimmed.ensures,
+      c.value_of.ensures,
       ← c.is_single.ensures,
       c.if-is_single.true,
     ) in record {

@@ -4,5 +4,4 @@ use Rattle.value.proofs.signed_whole.Goals as goal
 
 pub returns : goal.returns
 unfolding signed_by
-returns c =
-    rw (c.with_sign.ensures, c.is_minus.ensures, c.whole_of.ensures, c.after_sign-size.ensures)
+returns c = rw (c.with_sign.ensures, c.whole_of.ensures, ← c.split_sign-minus.ensures.minus, ← c.split_sign-minus.ensures.rest)

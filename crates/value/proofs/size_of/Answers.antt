@@ -1,59 +1,41 @@
 -- After the digits there is nothing, a point or another byte, as in the definition; 16 characters make no number that does not fit.
-use mathlib.Core.Path.{sym, ap, ◌∙◌}
-use Prim.Native.Nat.{ℕ, ◌+◌}
-use mathlib.Core.List.{List}
-use lib.ListN.{length, length-drop}
-use native.Mathlib.Omega.{arith}
+use Rattle.std.proofs.Common.{ℕ, ◌+◌, List, length, length-drop, sym, ap, ◌∙◌, arith}
 use Rattle.value.specs.Number.{end_of, point_by, run_of}
 use Rattle.value.proofs.Forms as forms
 use Rattle.basics.proofs.Lists as lists
+use Rattle.value.proofs.size_of.Goals.{else-n-s-via-then-n-s+else-s-n-eq46, else-n-s-via-else-n-s}
 use Rattle.value.proofs.size_of.Goals as goal
 
 pub digits-d-requires : goal.digits-d-requires
-digits-d-requires c =
-    forms.run_fits _ c.requires
-
-pub end_of-requires : goal.end_of-requires
-end_of-requires c = (
-  forms.number_fits 0 c.args.s.now c.digits-d.result c.digits-d.ensures
-      (forms.run_fits _ c.requires),
-  omega arith,
-)
+digits-d-requires c = forms.run_fits _ c.requires
 
 pub point_of-requires : goal.point_of-requires
 point_of-requires c =
-    let e = ap length (lists.to_end c.args.s.now (c.digits-d.result.count + 1))
-    ∙ length-drop (c.digits-d.result.count + 1) c.args.s.now in (
-      omega (arith, e, c.requires),
-      forms.point-fits c.args.s.now c.digits-d.result c.digits-d.ensures
-          c.requires _ (omega (arith, e, c.if-n-s.false, c.digits-d.ensures.within)),
-    )
+    let s = c.args.s.now in
+    let r = c.digits-d.result in
+    let e = ap length (lists.to_end s (r.count + 1)) ∙ length-drop (r.count + 1) s in
+    (omega (arith, e), forms.point-fits s r c.digits-d.ensures c.requires _ (omega (arith, e)))
 
-pub end_of-requires-else-s-n-eq-POINT : goal.end_of-requires-else-s-n-eq-POINT
-end_of-requires-else-s-n-eq-POINT c = (
-  forms.number_fits 0 c.args.s.now c.digits-d.result c.digits-d.ensures (forms.run_fits _ c.requires),
-  omega arith,
-)
+pub end_of-requires : goal.end_of-requires
+end_of-requires c =
+    (forms.number_fits 0 c.args.s.now c.digits-d.result c.digits-d.ensures (forms.run_fits _ c.requires), omega arith)
 
-pub returns-then-n-s : goal.returns-then-n-s
-returns-then-n-s c =
-    c.end_of.ensures
-    ∙ ap (λ (l : List ℕ). end_of c.digits-d.result.count c.digits-d.result.number 0 l)
-    (lists.to_end c.args.s.now c.digits-d.result.count)
-    ∙ sym (forms.size-end c.args.s.now c.digits-d.result c.digits-d.ensures c.if-n-s.true)
-
-pub returns-then-s-n-eq-POINT : goal.returns-then-s-n-eq-POINT
-returns-then-s-n-eq-POINT c =
+pub returns-then-s-n-eq46 : goal.returns-then-s-n-eq46
+returns-then-s-n-eq46 c =
+    let s = c.args.s.now in
+    let r = c.digits-d.result in
     c.point_of.ensures
-    ∙ ap (λ (l : List ℕ). point_by c.digits-d.result.count (run_of c.digits-d.result.number l))
-    (lists.to_end c.args.s.now (c.digits-d.result.count + 1))
-    ∙ sym (forms.size-point c.args.s.now c.digits-d.result c.digits-d.ensures c.if-n-s.false
-    c.if-s-n-eq-POINT.true)
+    ∙ ap (λ (l : List ℕ). point_by r.count (run_of r.number l)) (lists.to_end s (r.count + 1))
+    ∙ sym (forms.size-point s r c.digits-d.ensures (λ e. omega arith) c.if-s-n-eq46.true)
 
-pub returns-else-s-n-eq-POINT : goal.returns-else-s-n-eq-POINT
-returns-else-s-n-eq-POINT c =
-    c.end_of-else-s-n-eq-POINT.ensures
-    ∙ ap (λ (l : List ℕ). end_of c.digits-d.result.count c.digits-d.result.number 0 l)
-    (lists.to_end c.args.s.now c.digits-d.result.count)
-    ∙ sym (forms.size-other c.args.s.now c.digits-d.result c.digits-d.ensures c.if-n-s.false
-    c.if-s-n-eq-POINT.false)
+pub returns-else-n-s : goal.returns-else-n-s
+returns-else-n-s c =
+    let s = c.args.s.now in
+    let r = c.digits-d.result in
+    let d = c.digits-d.ensures in
+    c.end_of.ensures
+    ∙ ap (λ (l : List ℕ). end_of r.count r.number 0 l) (lists.to_end s r.count)
+    ∙ sym (elim c.else-n-s.branch [
+      | else-n-s-via-then-n-s+else-s-n-eq46 w ↦ forms.size-other s r d (λ e. omega (arith, w.if-n-s.true)) w.if-s-n-eq46.false
+      | else-n-s-via-else-n-s w ↦ forms.size-end s r d (omega (arith, d.within, w.if-n-s.false))
+    ])

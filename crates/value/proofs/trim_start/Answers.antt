@@ -1,22 +1,19 @@
 -- Dropping a first byte b changes nothing, and once the first byte is another there is nothing to drop.
-use mathlib.Core.Path.{refl, sym, ◌∙◌}
+use Rattle.std.proofs.Common.{sym, ap, ◌∙◌, arith}
+use borrow.Author.Tests.{ltb-true}
 use Rattle.basics.proofs.Lists.{to_end}
+use Rattle.value.specs.Text.{trim_start}
 use Rattle.value.proofs.Trimming as trimming
 use Rattle.value.proofs.trim_start.Goals as goal
 
-pub loop-i-init : goal.loop-i-init
-loop-i-init c =
-    refl
+pub loop-left-preserved : goal.loop-left-preserved
+loop-left-preserved c =
+    let left = c.loop-left.left.now in
+    ap (trim_start c.args.b) (to_end left 1)
+    ∙ sym (trimming.start-same c.args.b left c.in-len1-up.len_at_least c.if-first-b.true) ∙ c.loop-left.invariant
 
-pub returns-then-v-i : goal.returns-then-v-i
-returns-then-v-i c =
-    to_end c.args.v.now c.loop-i.i
-    ∙ sym (trimming.start-no _ _ _ c.loop-i-test.true c.if-v-i.true) ∙ c.loop-i.invariant
+pub returns-then-left-lt1 : goal.returns-then-left-lt1
+returns-then-left-lt1 c = sym (trimming.start-none _ _ (omega (arith, ltb-true))) ∙ c.loop-left.invariant
 
-pub loop-i-preserved : goal.loop-i-preserved
-loop-i-preserved c =
-    sym (trimming.start-next _ _ _ c.loop-i-test.true c.if-v-i.false) ∙ c.loop-i.invariant
-
-pub returns : goal.returns
-returns c =
-    sym (trimming.start-end _ _ _ c.loop-i-test.false) ∙ c.loop-i.invariant
+pub returns-else-first-b : goal.returns-else-first-b
+returns-else-first-b c = sym (trimming.start-other _ _ c.in-len1-up.len_at_least c.if-first-b.false) ∙ c.loop-left.invariant

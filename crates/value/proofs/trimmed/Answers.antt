@@ -5,4 +5,4 @@ use Rattle.value.proofs.trimmed.Goals as goal
 
 pub returns : goal.returns
 returns c =
-    c.trim_start.ensures ∙ ap (trim_start 0x20) c.trim_end-t.ensures
+    c.trim_start.ensures ∙ ap (trim_start 0x20) c.trim_end.ensures

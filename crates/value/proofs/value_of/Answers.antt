@@ -1,47 +1,24 @@
--- Behind a backslash the value sought is one nearer; where there is no further backslash there is no further value.
-use Prim.Native.Nat.{ℕ}
-use mathlib.Core.Path.{ap, ◌≡◌, refl, sym, ◌∙◌}
-use native.Mathlib.Omega.{arith}
-use mathlib.Core.List.{[]}
-use lib.ListN.{drop, get_or}
-use Rattle.value.specs.Text.{values_of}
-use Rattle.value.proofs.Parts as parts
+-- The parts between backslashes are the values, and `nth` takes one; where there are fewer the value is empty.
+use Rattle.std.proofs.Common.{◌≡◌, List, ℕ, [], eqb, get_or, refl, ap, ◌∙◌, rules, tests, Option, Some, None, Bor}
+use Rattle.std.specs.List.{slice_get, slice_split}
+use Rattle.std.specs.Option.{option_map, unwrap_or}
+use Rattle.std.proofs.lemmas.Option.{unwrap_or-slice_get}
+use Rattle.std.proofs.lemmas.Iterator.Consumers.{nth_from_yields_List}
+use Rattle.std.proofs.lemmas.Iterator.Splits.{YieldsList-from_slice_split}
+use Rattle.value.proofs.Parts.{parts-are}
 use Rattle.value.proofs.value_of.Goals as goal
 
-pub loop-left-init : goal.loop-left-init
-loop-left-init c =
-    (refl, omega arith)
-
-pub loop-left-preserved : goal.loop-left-preserved
-loop-left-preserved c =
-    let e = c.value_end-end.ensures in (
-      sym (parts.later-value c.args.v.now c.loop-left.from c.value_end-end.result e c.loop-left.left
-          c.loop-left-test.true c.if-end-v.true) ∙ c.loop-left.invariant.0,
-      omega arith,
-    )
-
-pub returns-else-end-v : goal.returns-else-end-v
-returns-else-end-v c =
-    let e = c.value_end-end.ensures in
-    sym (parts.no-later c.args.v.now c.loop-left.from c.value_end-end.result e c.loop-left.left
-    c.loop-left-test.true c.if-end-v.false) ∙ c.loop-left.invariant.0
-
-pub slice_bounds-result-count : goal.slice_bounds-result-count
-slice_bounds-result-count c =
-    parts.part-start c.args.v.now c.loop-left.from c.value_end-end-2.result c.value_end-end-2.ensures
-
-pub slice_bounds-result-start : goal.slice_bounds-result-start
-slice_bounds-result-start c =
-    parts.part-start c.args.v.now c.loop-left.from c.value_end-end-2.result c.value_end-end-2.ensures
-
-pub slice_bounds-result-end-2 : goal.slice_bounds-result-end-2
-slice_bounds-result-end-2 c =
-    parts.part-within c.args.v.now c.loop-left.from c.value_end-end-2.result c.value_end-end-2.ensures
-    c.loop-left.invariant.1
+now-unwrap_or : (o : Option (Bor (List ℕ))) (d : Bor (List ℕ)) → (unwrap_or o d).now ≡ unwrap_or (option_map (λ x. x.now) o) d.now
+now-unwrap_or None d = refl
+now-unwrap_or (Some x) d = refl
 
 pub returns : goal.returns
 returns c =
-    let z : 0 ≡ c.loop-left.left = omega (arith, c.loop-left-test.false) in
-    parts.part-is c.args.v.now c.loop-left.from c.value_end-end-2.result c.value_end-end-2.ensures
-    ∙ ap (λ (n : ℕ). get_or (values_of (drop c.loop-left.from c.args.v.now)) n []) z
-    ∙ c.loop-left.invariant.0
+    let v = c.args.v.now in
+    let e : option_map (λ x. x.now) c.nth.result ≡ slice_get (slice_split (λ b. eqb b 0x5C) v) c.args.k = nth_from_yields_List c.nth.result _ c.args.k c.nth.ensures.ran
+    (YieldsList-from_slice_split _ (λ b. eqb b 0x5C) v c.split.ensures.rest c.split.ensures.done c.split.ensures.closure (λ x b q k. search (rules, tests))) in
+    ap (λ (x : Bor (List ℕ)). x.now) c.unwrap_or.ensures
+    ∙ now-unwrap_or c.nth.result _
+    ∙ ap (λ (o : Option (List ℕ)). unwrap_or o []) e
+    ∙ unwrap_or-slice_get (slice_split (λ b. eqb b 0x5C) v) c.args.k []
+    ∙ ap (λ (vs : List (List ℕ)). get_or vs c.args.k []) (parts-are v)

@@ -1,8 +1,8 @@
 -- Each term stands on the side where it is not negative, so that up - down is 2ux - 2C + W without a negative number.
+use Rattle.std.specs.Prelude.{Some}
 use mathlib.Core.Path.{sym, ap, ◌∙◌}
 use Prim.Native.Nat.{ℕ, ◌+◌, ◌-◌, ◌*◌}
 use native.Mathlib.Omega.{arith}
-use mathlib.Core.Option.{some}
 use lib.IntN.{pos}
 use Rattle.value.specs.Number.{unit}
 use Rattle.window.specs.Internal.{above, ramp_of}
@@ -51,7 +51,7 @@ returns-else-up-down c =
     let n = 2 * unit * a.minus + 2 * c.above.result in
     let e = c.ramp.ensures.0 ∙ ap (λ (w : ℕ). ramp_of c.taken_off-e.result (u - n) w) c.above-w.ensures
     ∙ ap (λ (o : ℕ). ramp_of o (u - n) (above a.window.width)) c.taken_off-e.ensures.0 in (
-      ap (λ (y : ℕ). some (pos y)) e
+      ap (λ (y : ℕ). Some (pos y)) e
           ∙ sym (window-ramp a.window s.widths (gap a.plus a.minus) u n (omega arith) (omega arith) c.if-up-down.false),
       c.ramp.ensures.1,
     )

@@ -1,9 +1,0 @@
--- The numbers of the answer, with the sum put in.
-use mathlib.Core.Path.{ap, ◌∙◌}
-use Rattle.c_answers.specs.declared.Answer.{Answer}
-use Rattle.c_answers.specs.Host.{with_searches}
-use Rattle.c_judge.proofs.counted_numbers.Goals as goal
-
-pub returns : goal.returns
-returns c =
-    c.with_searches.ensures ∙ ap (λ (a : Answer). with_searches c.args.counted.searches a) c.judge_numbers-numbers.ensures
