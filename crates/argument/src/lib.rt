@@ -52,8 +52,9 @@ pub fn read_decimal(text: &[u8]) -> Result<u64, DecimalError>
     Ok(n)
 }
 
-// Whether the program has an argument with that number, however long; its own name has number 0.
-pub fn is_present(rt: &impl Env, number: usize) -> bool {
+// Whether the program has an argument with that number, however long; its own name has number 0. (Not public: `Env` promises nothing of
+// which arguments there are, so a contract could say nothing, and `compare_one` has its own.)
+fn is_present(rt: &impl Env, number: usize) -> bool {
     let mut text = [0u8; DIGITS];
     !matches!(rt.arg(number, &mut text), Err(FillError::NotPresent))
 }

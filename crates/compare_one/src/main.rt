@@ -3,12 +3,12 @@
 // first cell that is off and how many are off; or the refusal, in a line.
 #![tactic(auto)]
 
-use argument::{DIGITS, is_present, read_decimal};
+use argument::{DIGITS, read_decimal};
 use compare::{CompareError, Comparison};
 use conformance::NotAccepted;
 use printing::{print_broken, print_code};
 use rowprint::print_error;
-use std::env::Env;
+use std::env::{Env, FillError};
 use std::io;
 use std::io::{Read, Write};
 
@@ -68,6 +68,12 @@ fn read_input<R: Read, W: Write>(
         return room::print_too_long(to, MOST_INPUT);
     }
     compare_input(to, &bytes[..n], frame, tolerance, size as usize)
+}
+
+// Whether there is a k-th argument, however long, as in `argument`.
+fn is_present(rt: &impl Env, k: usize) -> bool {
+    let mut text = [0u8; DIGITS];
+    !matches!(rt.arg(k, &mut text), Err(FillError::NotPresent))
 }
 
 // The k-th argument, if it is a number.
