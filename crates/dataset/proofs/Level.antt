@@ -20,7 +20,7 @@ use Rattle.std.specs.Prelude.{Option, Result, Ok, Err}
 use Rattle.basics.specs.Vr.{SQ}
 use Rattle.dataset.specs.Header.{moved}
 use Rattle.dataset.specs.declared.Row.{Row}
-use Rattle.dataset.specs.Reading.{row, Run, done, refused, unfinished, on_head, on_run, level, value_run}
+use Rattle.dataset.specs.Reading.{row, Run, done, refused, unfinished, on_head, on_run, level, turns_for, value_run}
 use Rattle.dataset.specs.Answer.{flat, width}
 use Rattle.dataset.specs.Internal.{Within, RunWithin, Walked, Replaced, LeafWalked, items_at, walk, told}
 use Rattle.dataset.proofs.Buffer.{length-flat, flat_append, sets-append, sets_over, row-over}
@@ -202,12 +202,12 @@ module _ (head : ℕ → ℕ → Result Head Fault) (inside : ℕ → ℕ → Cu
   turn at least rows zero h e lt = absurd (omega arith)
   turn at least rows (suc t) h e lt = (t, (e, lt))
 
-  pub started : (s : List ℕ) → c.at ≤ c.end → c.end ≤ length s → level head inside depth first (length s + 1) c.at 0 [] ≡ o
+  pub started : (s : List ℕ) → c.at ≤ c.end → c.end ≤ length s → level head inside depth first (turns_for s) c.at 0 [] ≡ o
       → Here buffer₀ c.at first 0
   started s h k e =
       record {
         rows = [];
-        turns = length s + 1;
+        turns = turns_for s;
         rest = e;
         enough = omega arith;
         low = omega arith;

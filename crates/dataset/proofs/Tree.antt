@@ -21,7 +21,7 @@ use Rattle.dataset.specs.Header.{when, cursor, moved, header_by, delimiter_by, n
 use Rattle.basics.specs.Tags.{item_tag}
 use Rattle.dataset.specs.Header.{sized_by, member_at, element_at, item_at}
 use Rattle.dataset.specs.declared.Row.{Row}
-use Rattle.dataset.specs.Reading.{row, Run, done, refused, unfinished, on_head, on_run, level, value_run, elements_at, Reading, depths}
+use Rattle.dataset.specs.Reading.{row, Run, done, refused, unfinished, on_head, on_run, level, value_run, elements_at, Reading, depths, turns_for}
 use Rattle.dataset.specs.Internal.{items_at}
 use Rattle.dataset.specs.Reading.{too_large, refused_at, read, whole, reading_of}
 use Rattle.basics.specs.Limits.{largest, most_rows}
@@ -368,7 +368,7 @@ elements-adds levels s d inside first c p q =
     (omega arith)
     (λ at least r. header-moves elements least (moved c at) _ r (λ k. tagged-moves s (moved c at) k _ least levels))
     (λ at least tag vr v e q. let k : 1 ≤ levels = sequence-level levels s (moved c at) least e q in omega (arith, d, k)) inside
-    (length s + 1) first c.at 0 [] (sym (add-zero first)) p (omega arith)
+    (turns_for s) first c.at 0 [] (sym (add-zero first)) p (omega arith)
 
 value-inside : (levels : ℕ) (s : List ℕ) → levels ≤ depths → (first vr : ℕ) (v : Cursor) → v.at ≤ v.end → v.end ≤ length s
     → Inside (length s) elements (depths - levels) first vr v (value_run levels s first vr v)
@@ -385,10 +385,10 @@ value-inside (suc levels) s d first vr v p q =
     (λ at least tag r w e. tt)
     (λ n r c k l. (
       elements-adds levels s (omega arith) (value-inside levels s (omega arith)) n c k l,
-      level-bare (λ at least. element_at s (moved c at) least levels) (value_run levels s) (depths - levels) n (length s + 1) c.at 0,
+      level-bare (λ at least. element_at s (moved c at) least levels) (value_run levels s) (depths - levels) n (turns_for s) c.at 0,
     ))
-    (length s + 1) first v.at 0 [] (sym (add-zero first)) p (omega arith)))
-    (level-bare (λ at least. item_at s (moved v at)) (λ n _ c. elements_at levels s n c) (depths - levels) first (length s + 1) v.at 0))
+    (turns_for s) first v.at 0 [] (sym (add-zero first)) p (omega arith)))
+    (level-bare (λ at least. item_at s (moved v at)) (λ n _ c. elements_at levels s n c) (depths - levels) first (turns_for s) v.at 0))
     (λ t. leaf-inside (length s) (depths - suc levels) first vr v p (λ e _. eqb-false vr SQ t e))
 
 -- No reading runs out of turns: neither that of a whole data set nor that of a part of one.

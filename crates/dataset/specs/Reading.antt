@@ -54,15 +54,19 @@ level head inside depth first (suc turns) at least rows =
 abbrev pub depths : ℕ
 depths = 8
 
+-- A level's turns: more than the bytes.
+abbrev pub turns_for : List ℕ → ℕ
+turns_for s = length s + 1
+
 -- An item, element by element.
 abbrev pub elements_by : (ℕ → ℕ → Cursor → Run) → ℕ → List ℕ → ℕ → Cursor → Run
 elements_by inside levels s first c =
-    level (λ at least. element_at s (moved c at) least levels) inside (depths - levels) first (length s + 1) c.at 0 []
+    level (λ at least. element_at s (moved c at) least levels) inside (depths - levels) first (turns_for s) c.at 0 []
 
 -- A sequence, item by item.
 abbrev pub items_by : (ℕ → Cursor → Run) → ℕ → List ℕ → ℕ → Cursor → Run
 items_by elements levels s first c =
-    level (λ at least. item_at s (moved c at)) (λ n vr value. elements n value) (depths - levels) first (length s + 1) c.at 0 []
+    level (λ at least. item_at s (moved c at)) (λ n vr value. elements n value) (depths - levels) first (turns_for s) c.at 0 []
 
 -- An element's value: the items of a sequence, one level deeper; any other value has no rows, and ends at its end.
 unfoldable pub value_run : ℕ → List ℕ → ℕ → ℕ → Cursor → Run
