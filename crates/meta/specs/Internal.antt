@@ -20,7 +20,7 @@ abbrev pub FoundWithin : ℕ → Option HeadFindings → Type 0
 FoundWithin size None = Unit {0}
 FoundWithin size (Some f) = PlacesWithin size f
 
--- The result of a walk along the head's elements. None is unfinished, so that any value serves there.
+-- The result of a walk along the head's elements. None is unfinished, so that any value serves for that.
 abbrev pub walk_of : Run → Option HeadFindings
 walk_of (done stop next rows) = found_in none_found rows
 walk_of (refused code offset) = None

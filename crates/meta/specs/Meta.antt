@@ -95,7 +95,7 @@ abbrev pub of_found : List ℕ → Option HeadFindings → Result FileHead HeadE
 of_found s None = Err BadHead
 of_found s (Some f) = named s f.class f.syntax
 
--- No head is unfinished, so that any value serves there.
+-- What the run of a head says. None is unfinished (`finished` of the crate `dataset`), so that any value serves for that.
 abbrev pub of_run : List ℕ → Run → Result FileHead HeadError
 of_run s (refused code offset) = Err BadHead
 of_run s unfinished = Err BadHead
