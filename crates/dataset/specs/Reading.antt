@@ -54,7 +54,7 @@ level head inside depth first (suc turns) at least rows =
 abbrev pub depths : ℕ
 depths = 8
 
--- A level's turns: more than the bytes.
+-- The turns that a level is given: one more than there are bytes, which is more than it takes.
 abbrev pub turns_for : List ℕ → ℕ
 turns_for s = length s + 1
 
