@@ -14,11 +14,9 @@
  *
  *               xa_compare                             800,000 bytes for a masked frame
  *               xa_show, xa_show_file                  670,000 bytes for a masked frame
- *               xa_sheet                             1,080,000 bytes
+ *               xa_sheet                             1,070,000 bytes
  *               xa_judge, xa_judge_file, xa_linear      68,000 bytes
  *               all others                               2,000 bytes
- *
- *             Where symbols are bound lazily, the loader takes up to 3,000 bytes more at the first call of `memcpy`.
  */
 #ifndef LUUXIDGAAN_H
 #define LUUXIDGAAN_H

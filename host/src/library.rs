@@ -97,7 +97,7 @@ impl From<Rewritten> for Answer {
     }
 }
 
-/// The stack of a thread that makes calls. The header says that no call needs more than 1,080,000 bytes.
+/// The stack of a thread that makes calls. The header says that no call needs more than 1,070,000 bytes.
 pub const STACK: usize = 2 << 20;
 
 /// The bytes of a slip.

@@ -1,15 +1,14 @@
 -- Bytes put right after other bytes are put as one run, because each store leaves all before it as it was.
 use mathlib.Core.Path.{◌≡◌, refl, sym, ap, ◌∙◌}
 use mathlib.Core.Bool.{Bool, true, false, cond}
-use Prim.Native.Nat.{ℕ, zero, suc, ◌+◌, ◌/◌, ◌%◌, ◌^◌, ◌≤◌}
-use native.Mathlib.Nat.{div-one, div-div-eq-div-mul, pow-suc}
+use Prim.Native.Nat.{ℕ, zero, suc, ◌+◌, ◌/◌, ◌%◌, ◌^◌, ◌≤◌, ◌<◌}
+use native.Mathlib.Nat.{add-zero, div-one, div-div-eq-div-mul, pow-suc}
 use Rattle.std.specs.Int.{byte_at, bytes_low_first}
 use native.Mathlib.Omega.{arith}
 use borrow.Author.Tests.{eq-eqb, ne_eqb, eqb-true}
-use mathlib.Core.List.{List, ◌++◌, append_assoc}
-use lib.ListN.{length, take, drop}
-use lib.Seq.{sets, sets-eq, length-sets, drop-drop}
-use borrow.Rule.Slice.PartMut.{put_mid}
+use mathlib.Core.List.{List, ◌++◌}
+use lib.ListN.{length, get_or, set, take, drop, drop_of_length-le, length-set}
+use lib.Seq.{sets, drop-cons}
 use lib.Dec.{eqb}
 use Rattle.basics.specs.Vr.{form_of}
 use Rattle.dataset.proofs.Buffer.{sets-append}
@@ -17,16 +16,31 @@ use Rattle.canonical.specs.Internal.{Put}
 use Rattle.canonical.specs.Written.{letters, length_of, header, head_size}
 use Rattle.basics.specs.Bytes.{le}
 
--- ---- Bytes put
+-- ---- Bytes put, one by one: what is left to put, put, comes to the whole
 
--- A write to a part of a target.
-pub part-put : (target bytes : List ℕ) (at k : ℕ) → at + length bytes ≤ length target → k ≡ length bytes
-    → Put target (put_mid at k target bytes) at bytes
-part-put target bytes at k h e =
-    let is : put_mid at k target bytes ≡ sets target at bytes =
-    rw (e, drop-drop (length bytes) at target)
-    (sym (append_assoc (take at target) bytes (drop (at + length bytes) target)) ∙ sym (sets-eq bytes target at h)) in
-    record { is = is; kept = ap length is ∙ length-sets target at bytes }
+pub record Left (target₀ : List ℕ) (at : ℕ) (value target : List ℕ) (i : ℕ) : Type 0 where
+  pub high : i ≤ length value
+  pub kept : length target ≡ length target₀
+  pub rest : sets target (at + i) (drop i value) ≡ sets target₀ at value
+
+pub value-first : (target value : List ℕ) (at : ℕ) → Left target at value target 0
+value-first target value at = record { high = omega arith; kept = refl; rest = rw (add-zero at) }
+
+pub value-next : {target₀ target value : List ℕ} {at i : ℕ} → Left target₀ at value target i → i < length value
+    → Left target₀ at value (set target (at + i) (get_or value i 0)) (i + 1)
+value-next {target₀} {target} {value} {at} {i} l h =
+    let a : at + (i + 1) ≡ suc (at + i) = omega arith in
+    let b : i + 1 ≡ suc i = omega arith in
+    record {
+      high = omega arith;
+      kept = length-set target (at + i) (get_or value i 0) ∙ l.kept;
+      rest = rw (a, b) (ap (λ (x : List ℕ). sets target (at + i) x) (sym (drop-cons value i 0 h)) ∙ l.rest);
+    }
+
+pub value-last : {target₀ target value : List ℕ} {at i : ℕ} → Left target₀ at value target i → length value ≤ i
+    → Put target₀ target at value
+value-last {target₀} {target} {value} {at} {i} l h =
+    record { is = ap (λ (x : List ℕ). sets target (at + i) x) (sym (drop_of_length-le value h)) ∙ l.rest; kept = l.kept }
 
 byte-at : (i x : ℕ) → byte_at i x ≡ x / 256 ^ i % 256
 byte-at zero x = rw div-one

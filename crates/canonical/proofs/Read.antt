@@ -21,7 +21,7 @@ use Rattle.dataset.specs.Header.{when, cursor, moved, header_by, delimiter_by, n
 use Rattle.basics.specs.Tags.{item_tag}
 use Rattle.dataset.specs.Header.{sized_by, member_at, element_at, item_at}
 use Rattle.dataset.specs.declared.Row.{Row}
-use Rattle.dataset.specs.Reading.{row, Run, done, refused, on_head, on_run, level, value_run, elements_at, Reading, too_large}
+use Rattle.dataset.specs.Reading.{row, Run, done, refused, unfinished, on_head, on_run, level, value_run, elements_at, Reading, too_large}
 use Rattle.dataset.specs.Internal.{items_at}
 use Rattle.dataset.specs.Reading.{depths}
 use Rattle.dataset.specs.Reading.{refused_at, read, whole, reading_of}
@@ -225,6 +225,7 @@ record Made (s : List ℕ) (kind : Kind) (levels least at end : ℕ) (before : L
 abbrev Makes : List ℕ → Kind → ℕ → ℕ → ℕ → ℕ → List Row → Run → Type 0
 Makes s kind levels least at end before (done stop next rows) = Made s kind levels least at end before stop next rows
 Makes s kind levels least at end before (refused fault offset) = Unit {0}
+Makes s kind levels least at end before unfinished = Unit {0}
 
 -- What a header with its value adds in front of a shape.
 record Grown (s : List ℕ) (kind : Kind) (levels least at end tag : ℕ) (new : List Row) (next : ℕ) : Type 0 where
@@ -256,6 +257,7 @@ module _ (s : List ℕ) (kind : Kind) (levels end first : ℕ) (at_head : ℕ �
       joins : (tag next : ℕ) (new : List Row) → Grown s kind levels least at end tag new next
           → (o : Run) → Makes s kind levels (tag + 1) next end (before ++ new) o → Makes s kind levels least at end before o
       joins tag next new g (refused fault offset) m = tt
+      joins tag next new g unfinished m = tt
       joins tag next new g (done stop after rows) m =
           let w = g.grow m.rest m.bytes m.shape in
           record {
@@ -275,6 +277,7 @@ module _ (s : List ℕ) (kind : Kind) (levels end first : ℕ) (at_head : ℕ �
           level at_head inside (depths - levels) first turns next (tag + 1)
           (before ++ (row tag vr (depths - levels) v.at (stop - v.at) (length below) first ∷ below))))
       on-run k tag vr v (refused fault offset) g = tt
+      on-run k tag vr v unfinished g = tt
       on-run k tag vr v (done stop next below) g =
           let new : List Row = row tag vr (depths - levels) v.at (stop - v.at) (length below) first ∷ below in
           joins tag next new (g stop next below refl) (level at_head inside (depths - levels) first turns next (tag + 1) (before ++ new))
@@ -482,6 +485,7 @@ module _ (s : List ℕ) where
 
       by-run : length s ≤ largest → (o : Run) → Makes s elements 8 0 0 (length s) [] o → Readable (whole o)
       by-run h (refused fault offset) m = tt
+      by-run h unfinished m = tt
       by-run h (done stop next rows) m =
           let fits : 0 + written_size (map (node_of s) rows) ≤ stop = rw m.is m.fits in
           record { bytes_of = m.bytes; shape = λ bytes. rw m.is (m.shape bytes); fits = omega (arith, fits, m.close, m.high); small = h }

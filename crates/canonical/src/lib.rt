@@ -20,12 +20,15 @@ use node::DataSet;
 
 // ---- Bytes into the target
 
-// Bytes as they are: a value, and the parts of a header.
+// Bytes as they are: a value, and the parts of a header. One by one and not by `copy_from_slice`, since a host whose symbols are bound lazily
+// pays the loader some 2,400 bytes of stack at the first call of `memcpy`.
 fn put_bytes(target: &mut [u8], at: usize, bytes: &[u8])
     requires { at + length bytes.now ≤ length target.old }
     ensures { Put target.old target.new at bytes.now }
 {
-    target[at..at + bytes.len()].copy_from_slice(bytes);
+    for i in 0..bytes.len() {
+        target[at + i] = bytes[i];
+    }
 }
 
 // The lowest `size` bytes of a number, the lowest first.

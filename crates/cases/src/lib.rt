@@ -8,10 +8,16 @@ ghost use Rattle.std.specs.Io.KnownBytes.{Appends, Keeps};
 use basics::u16_at;
 use std::io;
 use std::io::Write;
-use std::ops::Range;
+
+// Where the bytes of a case start and end. A struct of its own, since std's `Range` is not `Copy`.
+#[derive(Clone, Copy)]
+pub struct Case {
+    pub start: usize,
+    pub end: usize,
+}
 
 // Where the bytes of the case at a place are, if a whole one is there.
-pub fn case_at(cases: &[u8], at: usize) -> Option<Range<usize>>
+pub fn case_at(cases: &[u8], at: usize) -> Option<Case>
     requires { at ≤ length cases.now }
     ensures { IfSome result (λ case. (at < case.start) × ((case.start ≤ case.end) × (case.end ≤ length cases.now))) }
 {
@@ -23,7 +29,10 @@ pub fn case_at(cases: &[u8], at: usize) -> Option<Range<usize>>
     if cases.len() - start < size {
         return None;
     }
-    Some(start..start + size)
+    Some(Case {
+        start,
+        end: start + size,
+    })
 }
 
 // Says so where bytes are left after the last whole case.

@@ -127,7 +127,7 @@ fn compare_masked(
 }
 
 // The pixel bytes. `value_part` and not `DataSet::value`, since the theorem FrameBytes speaks of the part that it hands out.
-fn pixels_of<'a>(set: &DataSet<'a>, p: usize) -> &'a [u8]
+fn pixels_of<'a, 'b>(set: &DataSet<'a, 'b>, p: usize) -> &'a [u8]
     requires { IsPixels (nodes_of set.now) p }
     ensures { result.now ≡ value_at (nodes_of set.now) p }
 {

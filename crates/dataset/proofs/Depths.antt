@@ -13,7 +13,7 @@ use Rattle.dataset.specs.declared.Head.TheVariants as heads
 use Rattle.basics.specs.Vr.{SQ}
 use Rattle.dataset.specs.Header.{moved, element_at, item_at}
 use Rattle.dataset.specs.declared.Row.{Row}
-use Rattle.dataset.specs.Reading.{row, Run, done, refused, on_head, on_run, level, depths, elements_by, items_by, value_run}
+use Rattle.dataset.specs.Reading.{row, Run, done, refused, unfinished, on_head, on_run, level, depths, turns_for, elements_by, items_by, value_run}
 
 -- No row stands above depth d.
 abbrev pub Deep : ℕ → List Row → Type 0
@@ -23,6 +23,7 @@ Deep d (r ∷ rs) = (d ≤ r.depth) × Deep d rs
 abbrev pub RunDeep : ℕ → Run → Type 0
 RunDeep d (done stop next rows) = Deep d rows
 RunDeep d (refused fault offset) = Unit {0}
+RunDeep d unfinished = Unit {0}
 
 deep-append : (d : ℕ) (a b : List Row) → Deep d a → Deep d b → Deep d (a ++ b)
 deep-append d [] b p q = q
@@ -43,6 +44,7 @@ level-deep head inside depth first (suc turns) at least rows d k inner h =
         → RunDeep d (on_run r (λ stop next below. level head inside depth first turns next (tag + 1)
         (rows ++ (row tag vr depth v.at (stop - v.at) (length below) first ∷ below))))
     by-run (refused fault offset) tag vr v q go = tt
+    by-run unfinished tag vr v q go = tt
     by-run (done stop next below) tag vr v q go =
         go next tag (row tag vr depth v.at (stop - v.at) (length below) first ∷ below)
         (deep-append d rows (row tag vr depth v.at (stop - v.at) (length below) first ∷ below) h (k, q))
@@ -61,8 +63,8 @@ value-deep zero d k s first vr v = tt
 value-deep (suc levels) d k s first vr v =
     by-vr (eqb vr SQ) (items_by (λ n c. elements_by (value_run levels s) levels s n c) levels s first v)
     (level-deep (λ at least. item_at s (moved v at)) (λ n _ c. elements_by (value_run levels s) levels s n c) (depths - levels) first
-    (length s + 1) v.at 0 [] d (omega arith)
-    (λ n _ c. level-deep (λ at least. element_at s (moved c at) least levels) (value_run levels s) (depths - levels) n (length s + 1) c.at
+    (turns_for s) v.at 0 [] d (omega arith)
+    (λ n _ c. level-deep (λ at least. element_at s (moved c at) least levels) (value_run levels s) (depths - levels) n (turns_for s) c.at
     0 [] d (omega arith)
     (λ m vr₁ w. value-deep levels d (omega arith) s m vr₁ w) tt)
     tt)

@@ -20,7 +20,7 @@ use Rattle.std.specs.Prelude.{Option, Result, Ok, Err}
 use Rattle.basics.specs.Vr.{SQ}
 use Rattle.dataset.specs.Header.{moved}
 use Rattle.dataset.specs.declared.Row.{Row}
-use Rattle.dataset.specs.Reading.{row, Run, done, refused, on_head, on_run, level, value_run}
+use Rattle.dataset.specs.Reading.{row, Run, done, refused, unfinished, on_head, on_run, level, turns_for, value_run}
 use Rattle.dataset.specs.Answer.{flat, width}
 use Rattle.dataset.specs.Internal.{Within, RunWithin, Walked, Replaced, LeafWalked, items_at, walk, told}
 use Rattle.dataset.proofs.Buffer.{length-flat, flat_append, sets-append, sets_over, row-over}
@@ -51,6 +51,7 @@ pub over : (o : Run) {c : Cursor} {first : ℕ} {buffer after last : List ℕ} {
     → Walked o c first after last r → Walked o c first buffer last r
 over (done stop next rows) l p w = record { is = w.is; within = w.within; wrote = λ h. w.wrote (omega arith) ∙ p h }
 over (refused fault offset) l p w = record { is = w.is; within = w.within; wrote = tt }
+over unfinished l p w = absurd w.within
 
 -- What stands at a cursor that was moved along its level.
 pub stands : (c here : Cursor) (f : Cursor → Result Head Fault) {h g : Result Head Fault} → here ≡ moved c here.at → (h ≡ f here) × Within here h → h ≡ g
@@ -81,6 +82,7 @@ below (refused fault offset) {w} r =
     let t : Ok w ≡ Err (refusal fault offset) = r.is in
     let z : ◌≡◌ {A = ℕ} 0 1 = cc in
     absurd (omega arith)
+below unfinished r = absurd r.within
 
 -- What a walk that was refused says of its run.
 pub stopped : (o : Run) {v : Cursor} {first : ℕ} {buffer after : List ℕ} {r : Refusal} → Walked o v first buffer after (Err r)
@@ -93,6 +95,7 @@ stopped (refused fault offset) {v} {first} {buffer} {after} {r} w =
     let t : Err (refusal fault offset) ≡ Err r = sym w.is in
     let e : refusal fault offset ≡ r = cc in
     subst (λ (x : Refusal). (refused fault offset ≡ refused x.fault x.offset) × RunWithin v (refused x.fault x.offset)) e (refl, w.within)
+stopped unfinished w = absurd w.within
 
 -- ---- One turn
 
@@ -140,6 +143,9 @@ level-grows head inside depth first (suc turns) at least rows stop next all e =
         (rows ++ (row tag vr depth v.at (stop - v.at) (length below) first ∷ below))) ≡ done stop next all
         → length rows ≤ length all
     by-run (refused fault offset) tag vr v go q =
+        let z : ◌≡◌ {A = ℕ} 0 1 = cc in
+        absurd (omega arith)
+    by-run unfinished tag vr v go q =
         let z : ◌≡◌ {A = ℕ} 0 1 = cc in
         absurd (omega arith)
     by-run (done stop' next' below) tag vr v go q =
@@ -196,12 +202,12 @@ module _ (head : ℕ → ℕ → Result Head Fault) (inside : ℕ → ℕ → Cu
   turn at least rows zero h e lt = absurd (omega arith)
   turn at least rows (suc t) h e lt = (t, (e, lt))
 
-  pub started : (s : List ℕ) → c.at ≤ c.end → c.end ≤ length s → level head inside depth first (length s + 1) c.at 0 [] ≡ o
+  pub started : (s : List ℕ) → c.at ≤ c.end → c.end ≤ length s → level head inside depth first (turns_for s) c.at 0 [] ≡ o
       → Here buffer₀ c.at first 0
   started s h k e =
       record {
         rows = [];
-        turns = length s + 1;
+        turns = turns_for s;
         rest = e;
         enough = omega arith;
         low = omega arith;
@@ -242,6 +248,7 @@ module _ (head : ℕ → ℕ → Result Head Fault) (inside : ℕ → ℕ → Cu
       where
         by-run : (x : Run) → level head inside depth first i.turns at least i.rows ≡ x → Replaced first x buffer₀ buffer
         by-run (refused fault offset) e = tt
+        by-run unfinished e = tt
         by-run (done stop next all) e = λ h.
             let g : length i.rows ≤ length all = level-grows head inside depth first i.turns at least i.rows stop next all e in
             ap (λ (b : List ℕ). sets b (width * first) (flat all)) (i.wrote (omega (arith, i.count)))

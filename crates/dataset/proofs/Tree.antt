@@ -21,7 +21,7 @@ use Rattle.dataset.specs.Header.{when, cursor, moved, header_by, delimiter_by, n
 use Rattle.basics.specs.Tags.{item_tag}
 use Rattle.dataset.specs.Header.{sized_by, member_at, element_at, item_at}
 use Rattle.dataset.specs.declared.Row.{Row}
-use Rattle.dataset.specs.Reading.{row, Run, done, refused, on_head, on_run, level, value_run, elements_at, Reading, depths}
+use Rattle.dataset.specs.Reading.{row, Run, done, refused, unfinished, on_head, on_run, level, value_run, elements_at, Reading, depths, turns_for}
 use Rattle.dataset.specs.Internal.{items_at}
 use Rattle.dataset.specs.Reading.{too_large, refused_at, read, whole, reading_of}
 use Rattle.basics.specs.Limits.{largest, most_rows}
@@ -122,7 +122,7 @@ module _ (s : List ℕ) (c : Cursor) (k : c.at + 8 ≤ c.end) where
   member-moves tag least =
       by-test items least c _ _ _ (λ _. sized-moves least _) (λ _. delimiter-moves items least c tag _ _ k)
 
--- ---- A run that is done has added a forest; one that is refused has a fault and an offset within the known end
+-- ---- A run that is done has added a forest; one that is refused has a fault and an offset within the known end; and none is unfinished
 
 record Added (size : ℕ) (kind : Kind) (depth holder from least at end : ℕ) (before : List Row) (stop next : ℕ) (rows : List Row) : Type
     0 where
@@ -138,17 +138,20 @@ abbrev Adds : ℕ → Kind → ℕ → ℕ → ℕ → ℕ → ℕ → ℕ → L
 Adds size kind depth holder from least at end before (done stop next rows) = Added size kind depth holder from least at end before stop next
     rows
 Adds size kind depth holder from least at end before (refused fault offset) = (at ≤ offset) × (offset ≤ end)
+Adds size kind depth holder from least at end before unfinished = ⊥
 
 -- A run that is done without rows stops where it started.
 abbrev Bare : ℕ → Run → Type 0
 Bare at (done stop next rows) = length rows ≡ 0 → stop ≡ at
 Bare at (refused fault offset) = Unit {0}
+Bare at unfinished = Unit {0}
 
 -- Only a sequence and an item have rows below them; without any they are of length 0. A sequence is read where a level is left.
 abbrev Childless : Kind → ℕ → ℕ → ℕ → Run → Type 0
 Childless elements depth vr at (done stop next below) = ((vr ≡ SQ → ⊥) → length below ≡ 0)
     × (vr ≡ SQ → depth < 8 → length below ≡ 0 → stop ≡ at)
 Childless elements depth vr at (refused fault offset) = Unit {0}
+Childless elements depth vr at unfinished = Unit {0}
 Childless items depth vr at o = Bare at o
 
 abbrev Leveled : Kind → ℕ → ℕ → Type 0
@@ -193,6 +196,7 @@ member-first : (size : ℕ) (kind : Kind) (depth holder from least at next end :
     → (o : Run) → Adds size kind depth holder (from + 1 + length below) (r.tag + 1) next end (before ++ (r ∷ below)) o
     → Adds size kind depth holder from least at end before o
 member-first size kind depth holder from least at next end before r below m d f p (refused fault offset) a = omega (arith, a)
+member-first size kind depth holder from least at next end before r below m d f p unfinished a = a
 member-first size kind depth holder from least at next end before r below m d f p (done stop after rows) a =
     record {
       rest = r ∷ (below ++ a.rest);
@@ -230,6 +234,7 @@ module _ (size : ℕ) (kind : Kind) (depth first : ℕ) (header : ℕ → ℕ �
           level header inside depth first turns next (tag + 1)
           (before ++ (row tag vr depth v.at (stop - v.at) (length below) first ∷ below))))
       on-run k tag vr v m n w u (refused fault offset) g = omega (arith, g.0)
+      on-run k tag vr v m n w u unfinished g = g.0
       on-run k tag vr v m n w u (done stop next below) g =
           let r : Row = row tag vr depth v.at (stop - v.at) (length below) first in
           let e : below ≡ g.0.rest = g.0.is in
@@ -272,6 +277,7 @@ module _ (size : ℕ) (kind : Kind) (depth first : ℕ) (header : ℕ → ℕ �
 abbrev Long : ℕ → Run → Type 0
 Long n (done stop next rows) = n ≤ length rows
 Long n (refused fault offset) = Unit {0}
+Long n unfinished = Unit {0}
 
 level-long : (header : ℕ → ℕ → Result Head Fault) (inside : ℕ → ℕ → Cursor → Run) (depth first turns at least : ℕ) (rows : List Row) (n : ℕ)
     → n ≤ length rows
@@ -288,6 +294,7 @@ level-long header inside depth first (suc turns) at least rows n h =
         level header inside depth first turns next (tag + 1)
         (rows ++ (row tag vr depth v.at (stop - v.at) (length below) first ∷ below))))
     on-run k tag vr v (refused fault offset) = tt
+    on-run k tag vr v unfinished = tt
     on-run k tag vr v (done stop next below) =
         k next tag (rows ++ (row tag vr depth v.at (stop - v.at) (length below) first ∷ below))
         (omega (arith, h, length-append rows (row tag vr depth v.at (stop - v.at) (length below) first ∷ below)))
@@ -302,6 +309,7 @@ level-long header inside depth first (suc turns) at least rows n h =
 
 long-bare : (at : ℕ) (o : Run) → Long 1 o → Bare at o
 long-bare at (refused fault offset) h = tt
+long-bare at unfinished h = tt
 long-bare at (done stop next rows) h = λ e. absurd (omega (arith, h, e))
 
 level-bare : (header : ℕ → ℕ → Result Head Fault) (inside : ℕ → ℕ → Cursor → Run) (depth first turns at least : ℕ)
@@ -313,6 +321,7 @@ level-bare header inside depth first (suc turns) at least = on-head (header at l
     on-run : (tag vr : ℕ) (v : Cursor) (o : Run) → Bare at (on_run o (λ stop next below.
         level header inside depth first turns next (tag + 1) (row tag vr depth v.at (stop - v.at) (length below) first ∷ below)))
     on-run tag vr v (refused fault offset) = tt
+    on-run tag vr v unfinished = tt
     on-run tag vr v (done stop next below) =
         long-bare at
         (level header inside depth first turns next (tag + 1) (row tag vr depth v.at (stop - v.at) (length below) first ∷ below))
@@ -346,6 +355,7 @@ items-inside : (size depth first vr : ℕ) (v : Cursor) (o : Run) → vr ≡ SQ 
     → Bare v.at o
     → Inside size elements depth first vr v o
 items-inside size depth first vr v (refused fault offset) e a b = (a, tt)
+items-inside size depth first vr v unfinished e a b = absurd a
 items-inside size depth first vr v (done stop next below) e a b = (a, (λ n. absurd (n e), λ _ _. b))
 
 elements-adds : (levels : ℕ) (s : List ℕ) → levels ≤ depths
@@ -358,7 +368,7 @@ elements-adds levels s d inside first c p q =
     (omega arith)
     (λ at least r. header-moves elements least (moved c at) _ r (λ k. tagged-moves s (moved c at) k _ least levels))
     (λ at least tag vr v e q. let k : 1 ≤ levels = sequence-level levels s (moved c at) least e q in omega (arith, d, k)) inside
-    (length s + 1) first c.at 0 [] (sym (add-zero first)) p (omega arith)
+    (turns_for s) first c.at 0 [] (sym (add-zero first)) p (omega arith)
 
 value-inside : (levels : ℕ) (s : List ℕ) → levels ≤ depths → (first vr : ℕ) (v : Cursor) → v.at ≤ v.end → v.end ≤ length s
     → Inside (length s) elements (depths - levels) first vr v (value_run levels s first vr v)
@@ -375,11 +385,18 @@ value-inside (suc levels) s d first vr v p q =
     (λ at least tag r w e. tt)
     (λ n r c k l. (
       elements-adds levels s (omega arith) (value-inside levels s (omega arith)) n c k l,
-      level-bare (λ at least. element_at s (moved c at) least levels) (value_run levels s) (depths - levels) n (length s + 1) c.at 0,
+      level-bare (λ at least. element_at s (moved c at) least levels) (value_run levels s) (depths - levels) n (turns_for s) c.at 0,
     ))
-    (length s + 1) first v.at 0 [] (sym (add-zero first)) p (omega arith)))
-    (level-bare (λ at least. item_at s (moved v at)) (λ n _ c. elements_at levels s n c) (depths - levels) first (length s + 1) v.at 0))
+    (turns_for s) first v.at 0 [] (sym (add-zero first)) p (omega arith)))
+    (level-bare (λ at least. item_at s (moved v at)) (λ n _ c. elements_at levels s n c) (depths - levels) first (turns_for s) v.at 0))
     (λ t. leaf-inside (length s) (depths - suc levels) first vr v p (λ e _. eqb-false vr SQ t e))
+
+-- No reading runs out of turns: neither that of a whole data set nor that of a part of one.
+pub finished : (levels : ℕ) (s : List ℕ) → levels ≤ depths → (first : ℕ) (c : Cursor) → c.at ≤ c.end → c.end ≤ length s
+    → elements_at levels s first c ≡ unfinished → ⊥
+finished levels s d first c p q e =
+    subst (λ (o : Run). Adds (length s) elements (depths - levels) first first 0 c.at c.end [] o) e
+    (elements-adds levels s d (value-inside levels s d) first c p q)
 
 -- What a reading says: rows that are a forest, and no more than one to 8 bytes; or a code 1 to 6 within the data set.
 pub record Rows (s : List ℕ) (rows : List Row) : Type 0 where
@@ -401,6 +418,7 @@ reading-reads s = by_size (ltb largest (length s)) refl
 
     by-run : length s ≤ largest → (o : Run) → Adds (length s) elements 0 0 0 0 0 (length s) [] o → Reads s (whole o)
     by-run h (refused fault offset) a = omega (arith, a)
+    by-run h unfinished a = absurd a
     by-run h (done stop next rows) a =
         let e : rows ≡ a.rest = a.is in
         let f : Forest (length s) elements 0 0 0 0 rows = subst (λ (l : List Row). Forest (length s) elements 0 0 0 0 l) (sym e)

@@ -3,6 +3,7 @@
 use Rattle.std.specs.Prelude.{◌≡◌, ℕ, ◌+◌, ◌*◌, ◌≤◌, ◌<◌, List, length, Bool, true, false, Option, Some, None, Result, Ok, Err}
 use Rattle.std.proofs.lemmas.List.Edits.{sets}
 use Rattle.dataset.specs.declared.Fault.{Fault}
+use Rattle.dataset.specs.declared.Fault.TheVariants.{CutShort}
 use Rattle.dataset.specs.declared.Cursor.{Cursor}
 use Rattle.dataset.specs.declared.Head.{Head}
 use Rattle.dataset.specs.declared.Head.TheVariants as head
@@ -11,7 +12,7 @@ use Rattle.dataset.specs.declared.Refusal.{Refusal}
 use Rattle.dataset.specs.Fault.{refusal}
 use Rattle.dataset.specs.declared.Row.{Row}
 use Rattle.dataset.specs.Header.{header_by}
-use Rattle.dataset.specs.Reading.{Run, done, refused, depths, items_by, elements_at}
+use Rattle.dataset.specs.Reading.{Run, done, refused, unfinished, depths, items_by, elements_at}
 use Rattle.basics.specs.Limits.{largest}
 use Rattle.dataset.specs.Answer.{flat, width}
 
@@ -45,19 +46,24 @@ pub record IsStorable (r : Row) : Type 0 where
 abbrev pub walk : ℕ → ℕ → ℕ → Walk
 walk stop next rows = record { stop = stop; next = next; rows = rows }
 
+-- What a walk answers of a run. Where the run is unfinished any answer serves, since `RunWithin` says that none is.
 abbrev pub told : ℕ → Run → Result Walk Refusal
 told first (done stop next rows) = Ok (walk stop next (first + length rows))
 told first (refused fault offset) = Err (refusal fault offset)
+told first unfinished = Err (refusal CutShort 0)
 
+-- A run that stops or is refused does so within the known end, and it has not run out of turns.
 abbrev pub RunWithin : Cursor → Run → Type 0
 RunWithin c (done stop next rows) = (c.at ≤ stop) × ((stop ≤ next) × ((next ≤ c.end) × (c.at + 8 * length rows ≤ next)))
 RunWithin c (refused fault offset) = (c.at ≤ offset) × (offset ≤ c.end)
+RunWithin c unfinished = ⊥
 
 -- A buffer with room for the rows, numbered from `first`, holds them afterwards.
 abbrev pub Wrote : ℕ → Run → List ℕ → List ℕ → Type 0
 Wrote first (done stop next rows) buffer after = width * (first + length rows) ≤ length buffer
     → after ≡ sets buffer (width * first) (flat rows)
 Wrote first (refused fault offset) buffer after = Unit {0}
+Wrote first unfinished buffer after = Unit {0}
 
 pub record Walked (run : Run) (c : Cursor) (first : ℕ) (buffer after : List ℕ) (answer : Result Walk Refusal) : Type 0 where
   pub is : answer ≡ told first run
@@ -69,6 +75,7 @@ abbrev pub Replaced : ℕ → Run → List ℕ → List ℕ → Type 0
 Replaced first (done stop next rows) buffer after = width * (first + length rows) ≤ length buffer
     → sets after (width * first) (flat rows) ≡ sets buffer (width * first) (flat rows)
 Replaced first (refused fault offset) buffer after = Unit {0}
+Replaced first unfinished buffer after = Unit {0}
 
 -- What a walk that may be abandoned promises.
 abbrev pub LeafWalked : Run → Cursor → ℕ → List ℕ → List ℕ → Result (Option Walk) Refusal → Type 0

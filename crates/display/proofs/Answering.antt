@@ -95,7 +95,7 @@ by-operation ns f j = go (operation_is ns (ascii "NONE") j) (operation_is ns (as
 
 -- So for what is told of it, and each operation has what it needs.
 module _ (ns : List Node) (f j : ℕ) (t : Told) (told : IsTold ns j t) where
-  by-told : {o : Option Operation} → t.operation ≡ o → mask_by ns f j ≡ operated ns f j o
+  pub by-told : {o : Option Operation} → t.operation ≡ o → mask_by ns f j ≡ operated ns f j o
   by-told e = by-operation ns f j ∙ ap (operated ns f j) (sym told.operation-is ∙ e)
 
   pub operation-there : (n : ℕ) → Gives n (mask_by ns f j) → IsSome t.operation

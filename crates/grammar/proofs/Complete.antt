@@ -21,7 +21,7 @@ use Rattle.basics.specs.Limits.{largest}
 use Rattle.dataset.specs.Header.{cursor, moved, element_at, item_at}
 use Rattle.dataset.specs.Tree.{Kind, elements, items}
 use Rattle.dataset.specs.declared.Row.{Row}
-use Rattle.dataset.specs.Reading.{row, Run, done, refused, on_head, on_run, level, value_run, elements_at, depths}
+use Rattle.dataset.specs.Reading.{row, Run, done, refused, unfinished, on_head, on_run, level, value_run, elements_at, depths}
 use Rattle.dataset.specs.Reading.{too_large, read, whole, reading_of}
 use Rattle.dataset.specs.Internal.{items_at}
 use Rattle.dataset.proofs.Level.{value-plain}
@@ -55,6 +55,7 @@ pub record Made (s : List ℕ) (kind : Kind) (depth least at end : ℕ) (d : Boo
 abbrev pub Makes : List ℕ → Kind → ℕ → ℕ → ℕ → ℕ → Bool → ℕ → List Row → Run → Type 0
 Makes s kind depth least at end d first before (done stop next rows) = Made s kind depth least at end d first before stop next rows
 Makes s kind depth least at end d first before (refused fault offset) = Unit {0}
+Makes s kind depth least at end d first before unfinished = Unit {0}
 
 -- What a header with its value adds in front of a forest.
 abbrev pub Grown : List ℕ → Kind → ℕ → ℕ → ℕ → ℕ → List Row → ℕ → List Row → ℕ → Type 0
@@ -92,6 +93,7 @@ module _ (s : List ℕ) (kind : Kind) (depth end : ℕ) (d : Bool) (first : ℕ)
       joins : (tag next : ℕ) (new : List Row) → Grown s kind depth least at first before tag new next
           → (o : Run) → Makes s kind depth (tag + 1) next end d first (before ++ new) o → Makes s kind depth least at end d first before o
       joins tag next new g (refused fault offset) m = tt
+      joins tag next new g unfinished m = tt
       joins tag next new g (done stop after rows) m =
           record { final = m.final; got = g stop m.final rows m.got; ended = m.ended }
 
@@ -103,6 +105,7 @@ module _ (s : List ℕ) (kind : Kind) (depth end : ℕ) (d : Bool) (first : ℕ)
           level at_head inside depth first turns next (tag + 1)
           (before ++ (row tag vr depth v.at (stop - v.at) (length below) first ∷ below))))
       on-run k tag vr v (refused fault offset) g = tt
+      on-run k tag vr v unfinished g = tt
       on-run k tag vr v (done stop next below) g =
           let new : List Row = row tag vr depth v.at (stop - v.at) (length below) first ∷ below in
           joins tag next new (g stop next below refl).1 (level at_head inside depth first turns next (tag + 1) (before ++ new))
@@ -481,6 +484,7 @@ complete s bytes rows e = by_size (ltb largest (length s)) refl e
 
     by-run : length s ≤ largest → (o : Run) → Makes s elements 0 0 0 (length s) false 0 [] o → whole o ≡ read rows → Spelt s rows
     by-run h (refused fault offset) m e = let z : ◌≡◌ {A = ℕ} 0 1 = cc in absurd (omega arith)
+    by-run h unfinished m e = let z : ◌≡◌ {A = ℕ} 0 1 = cc in absurd (omega arith)
     by-run h (done stop next got) m e =
         let z : got ≡ rows = cc in
         subst (λ (l : List Row). Spelt s l) z (spelt h stop next got m m.ended)

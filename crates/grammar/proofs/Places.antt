@@ -20,11 +20,12 @@ use Rattle.dataset.specs.declared.Head.{Head}
 use Rattle.dataset.specs.declared.Head.TheVariants as head
 use Rattle.dataset.specs.Header.{cursor, moved, element_at, item_at}
 use Rattle.dataset.specs.declared.Row.{Row}
-use Rattle.dataset.specs.Reading.{row, Run, done, refused, on_head, on_run, level, value_run, elements_at, depths}
+use Rattle.dataset.specs.Reading.{row, Run, done, refused, unfinished, on_head, on_run, level, value_run, elements_at, depths}
 use Rattle.dataset.specs.Reading.{too_large, refused_at, whole, reading_of}
 use Rattle.dataset.specs.Internal.{items_at}
 use Rattle.dataset.specs.Tree.{Kind, elements, items}
 use Rattle.dataset.proofs.Level.{level-stop, level-refused, value-plain}
+use Rattle.dataset.proofs.Tree.{finished}
 use Rattle.dataset.proofs.Whole.{reading_small}
 use Rattle.grammar.specs.Grammar.{Forest, none, element, sequence, item, element_header, header_size, item_header, spell, count, rows_at}
 use Rattle.grammar.specs.Places.{inner_end, inner_mark, Stands, start, after, in-sequence, in_item, head_of}
@@ -186,6 +187,7 @@ module _ (s : List ℕ) (bytes : IsBytes s) (fault : Fault) (offset : ℕ) where
               (before ++ (row tag vr depth v.at (stop - v.at) (length below) first ∷ below))) ≡ refused fault offset
               → RefusedThere s fault offset
           on-run k tag vr v (refused c q) p g f e = f (first + length before + 1) (p ∙ e)
+          on-run k tag vr v unfinished p g f e = f (first + length before + 1) (p ∙ e)
           on-run k tag vr v (done stop next below) p g f e =
               let new : List Row = row tag vr depth v.at (stop - v.at) (length below) first ∷ below in
               let w = g stop next below p in
@@ -311,6 +313,7 @@ there s bytes fault offset e = by_size (ltb largest (length s)) refl e
     by-run (refused c q) p f =
         let a : refused c q ≡ refused fault offset = cc in
         elements-find s bytes fault offset 8 (omega arith) 0 all (omega arith) start (p ∙ a)
+    by-run unfinished p f = absurd (finished 8 s (omega arith) 0 all (omega arith) (omega arith) p)
 
     by_size : (t : Bool) → ltb largest (length s) ≡ t → cond t too_large (whole (elements_at depths s 0 all)) ≡ refused_at fault offset
         → RefusedThere s fault offset

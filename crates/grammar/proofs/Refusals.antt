@@ -7,8 +7,9 @@ use mathlib.Core.Bool.{false}
 use lib.ListN.{length}
 use Rattle.basics.specs.Bytes.{IsBytes}
 use Rattle.dataset.specs.declared.Fault.{Fault}
+use Rattle.dataset.specs.declared.Fault.TheVariants.{CutShort}
 use Rattle.dataset.specs.Header.{cursor}
-use Rattle.dataset.specs.Reading.{Run, done, refused, elements_at, depths, refused_at, read, whole, reading_of}
+use Rattle.dataset.specs.Reading.{Run, done, refused, unfinished, elements_at, depths, refused_at, read, whole, reading_of}
 use Rattle.dataset.proofs.Whole.{reading_small}
 use Rattle.grammar.specs.Grammar.{tree_rows}
 use Rattle.grammar.specs.Claims.{Unspelt, Refusals}
@@ -24,6 +25,7 @@ unspelt s fault offset r t h e =
 by-run : (s : List ℕ) → IsBytes s → Unspelt s → (o : Run) → reading_of s ≡ whole o
     → (fault : Fault) × ((offset : ℕ) × (reading_of s ≡ refused_at fault offset))
 by-run s bytes u (refused fault offset) e = (fault, (offset, e))
+by-run s bytes u unfinished e = (CutShort, (0, e))
 by-run s bytes u (done stop next rows) e = let c = complete s bytes rows e in absurd (u c.tree c.valid c.bytes)
 
 pub refusals : (s : List ℕ) → Refusals s

@@ -27,10 +27,10 @@ use Rattle.linear.specs.Mapping.{place_among, entry_place, entry_at, entry_of}
 -- ---- The first TO_LINEAR item
 
 module _ (ns : List Node) (from to k : ℕ) (at : Stops ns from to k) where
-  first-here : k < to → first (linear_among ns (members ns from to)) ≡ Some k
+  pub first-here : k < to → first (linear_among ns (members ns from to)) ≡ Some k
   first-here h = ap first (sym at.same ∙ linear-here ns k to h (at.stands h))
 
-  first-none : to ≤ k → first (linear_among ns (members ns from to)) ≡ None
+  pub first-none : to ≤ k → first (linear_among ns (members ns from to)) ≡ None
   first-none h = ap first (no-linear ns from to k at h)
 
   pub first-is : then_some (ltb k to) k ≡ first (linear_among ns (members ns from to))

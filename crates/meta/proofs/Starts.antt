@@ -8,7 +8,7 @@ use mathlib.Core.Bool.{Bool, true, false, cond}
 use mathlib.Core.List.{List}
 use lib.ListN.{length}
 use lib.Dec.{leb}
-use Rattle.dataset.specs.Reading.{Run, done, refused}
+use Rattle.dataset.specs.Reading.{Run, done, refused, unfinished}
 use Rattle.value.specs.Text.{is_single}
 use Rattle.value.specs.Words.{is_uid}
 use Rattle.meta.specs.declared.Place.{Place}
@@ -42,6 +42,7 @@ found-ends s (Some f) = named-ends s f.class f.syntax
 
 run_ends : (s : List ℕ) (o : Run) → EndsAt (head_end s) (of_run s o)
 run_ends s (refused code offset) = tt
+run_ends s unfinished = tt
 run_ends s (done stop next rows) = found-ends s (found_in none_found rows)
 
 -- A good head ends within the file.

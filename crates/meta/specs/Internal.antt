@@ -1,6 +1,6 @@
 -- What the functions of this crate promise each other. None of this is in the papers.
 use Rattle.std.specs.Prelude.{ℕ, ◌≤◌, Option, Some, None, Result, Ok, Err}
-use Rattle.dataset.specs.Reading.{Run, done, refused}
+use Rattle.dataset.specs.Reading.{Run, done, refused, unfinished}
 use Rattle.meta.specs.declared.Place.{Place}
 use Rattle.meta.specs.declared.HeadFindings.{HeadFindings}
 use Rattle.meta.specs.declared.FileHead.{FileHead}
@@ -20,10 +20,11 @@ abbrev pub FoundWithin : ℕ → Option HeadFindings → Type 0
 FoundWithin size None = Unit {0}
 FoundWithin size (Some f) = PlacesWithin size f
 
--- The result of a walk along the head's elements.
+-- The result of a walk along the head's elements. None is unfinished, so that any value serves for that.
 abbrev pub walk_of : Run → Option HeadFindings
 walk_of (done stop next rows) = found_in none_found rows
 walk_of (refused code offset) = None
+walk_of unfinished = None
 
 -- The data set starts within the file, and the SOP class lies in it.
 abbrev pub MetaWithin : ℕ → Result FileHead HeadError → Type 0

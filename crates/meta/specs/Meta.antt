@@ -7,7 +7,7 @@ use Rattle.basics.specs.Bytes.{same_bytes, le16, le32, tag_at, vr_at}
 use Rattle.basics.specs.Vr.{UI, UL}
 use Rattle.dataset.specs.Header.{cursor}
 use Rattle.dataset.specs.declared.Row.{Row}
-use Rattle.dataset.specs.Reading.{Run, done, refused, elements_at, depths}
+use Rattle.dataset.specs.Reading.{Run, done, refused, unfinished, elements_at, depths}
 use Rattle.value.specs.Text.{ascii, is_single}
 use Rattle.value.specs.Words.{is_uid}
 use Rattle.meta.specs.declared.Place.{Place}
@@ -95,8 +95,10 @@ abbrev pub of_found : List ℕ → Option HeadFindings → Result FileHead HeadE
 of_found s None = Err BadHead
 of_found s (Some f) = named s f.class f.syntax
 
+-- What the run of a head says. None is unfinished (`finished` of the crate `dataset`), so that any value serves for that.
 abbrev pub of_run : List ℕ → Run → Result FileHead HeadError
 of_run s (refused code offset) = Err BadHead
+of_run s unfinished = Err BadHead
 of_run s (done stop next rows) = of_found s (found_in none_found rows)
 
 -- If the head ends within the file: what its elements say.

@@ -24,14 +24,15 @@ const STEPS: usize = 32;
 // Up to this many nodes are searched without halves.
 const FEW: usize = 32;
 
-// A data set that was read: its bytes and their row table. Clauses see the bytes alone, since the table follows from them.
+// A data set that was read: its bytes and their row table, which are lent apart: a value borrows the bytes alone. Clauses see the bytes
+// alone, since the table follows from them.
 #[derive(Drop)]
-pub struct DataSet<'a> {
+pub struct DataSet<'a, 'b> {
     bytes: &'a [u8],
-    rows: &'a [u32],
+    rows: &'b [u32],
 }
 
-impl<'a> Model for DataSet<'a> {
+impl<'a, 'b> Model for DataSet<'a, 'b> {
     ghost Value = { List ℕ };
 
     ghost view = { λ d. d.bytes.now };
@@ -39,9 +40,9 @@ impl<'a> Model for DataSet<'a> {
     ghost invariant = { λ d. Table d.bytes.now d.rows.now };
 }
 
-impl<'a> DataSet<'a> {
+impl<'a, 'b> DataSet<'a, 'b> {
     // The data set of these bytes, with the rows that reading them gave.
-    pub fn new(bytes: &'a [u8], rows: &'a [u32]) -> DataSet<'a>
+    pub fn new(bytes: &'a [u8], rows: &'b [u32]) -> DataSet<'a, 'b>
         requires { Table bytes.now rows.now }
         ensures { result ≡ bytes.now }
     {
@@ -55,7 +56,7 @@ impl<'a> DataSet<'a> {
         self.bytes
     }
 
-    pub fn rows(&self) -> &'a [u32]
+    pub fn rows(&self) -> &'b [u32]
         ensures { Table self.now result.now }
     {
         self.rows
@@ -101,7 +102,7 @@ impl<'a> DataSet<'a> {
     }
 
     // The members from `from` up to `to`, one by one.
-    pub fn members<'s>(&'s self, from: usize, to: usize) -> Members<'s, 'a>
+    pub fn members<'s>(&'s self, from: usize, to: usize) -> Members<'s, 'a, 'b>
         requires { to ≤ length (nodes_of self.now) }
         ensures value { result ≡ members (nodes_of self.now) from to }
         ensures known { All (λ i. i < length (nodes_of self.now)) result }
@@ -116,7 +117,7 @@ impl<'a> DataSet<'a> {
     }
 
     // The members of node i: the items of a sequence, or the elements of an item.
-    pub fn inside<'s>(&'s self, i: usize) -> Members<'s, 'a>
+    pub fn inside<'s>(&'s self, i: usize) -> Members<'s, 'a, 'b>
         requires { i < length (nodes_of self.now) }
         ensures value { result ≡ inside (nodes_of self.now) i }
         ensures known { All (λ k. k < length (nodes_of self.now)) result }
@@ -302,13 +303,13 @@ impl<'a> DataSet<'a> {
 
 // The members that are still ahead in a container: from `at` up to `to`. Clauses see the list of their numbers.
 #[derive(Drop)]
-pub struct Members<'s, 'a> {
-    set: &'s DataSet<'a>,
+pub struct Members<'s, 'a, 'b> {
+    set: &'s DataSet<'a, 'b>,
     at: usize,
     to: usize,
 }
 
-impl<'s, 'a> Model for Members<'s, 'a> {
+impl<'s, 'a, 'b> Model for Members<'s, 'a, 'b> {
     ghost Value = { List ℕ };
 
     ghost view = { λ m. members (nodes_of m.set.now) m.at m.to };
@@ -316,7 +317,7 @@ impl<'s, 'a> Model for Members<'s, 'a> {
     ghost invariant = { λ m. m.to ≤ length (nodes_of m.set.now) };
 }
 
-impl<'s, 'a> Iterator for Members<'s, 'a> {
+impl<'s, 'a, 'b> Iterator for Members<'s, 'a, 'b> {
     type Item = usize;
 
     ghost next_gives = { YieldsFirst {A = ℕ} (λ ahead. ahead) };

@@ -9,10 +9,11 @@ use std::io;
 use std::io::Write;
 
 // A name and its number, as a part of a line.
-pub fn print_field<W: Write>(to: &mut W, name: &str, n: usize) -> io::Result<()>
+pub fn print_field<W: Write>(to: &mut W, name: &[u8], n: usize) -> io::Result<()>
     ensures { OnOk result (Appends (W.contents to.old) (W.contents to.new) (field name.now n)) }
 {
-    write!(to, "{name} {n}")
+    to.write_all(name)?;
+    write!(to, " {n}")
 }
 
 // A code alone.

@@ -10,7 +10,7 @@ fn print_cases<W: Write>(to: &mut W, cases: &[u8]) -> io::Result<()> {
     let mut at = 0;
     while let Some(case) = case_at(cases, at) {
         at = case.end;
-        rowprint::print_reading(to, &cases[case])?;
+        rowprint::print_reading(to, &cases[case.start..case.end])?;
     }
     print_rest(to, cases, at)
 }

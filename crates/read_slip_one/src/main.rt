@@ -9,7 +9,7 @@ use verdict::Verdict;
 // Ends the line of numbers.
 fn print_rows<W: Write>(to: &mut W, rows: Option<usize>) -> io::Result<()> {
     match rows {
-        Some(n) => print_field(to, " rows", n)?,
+        Some(n) => print_field(to, b" rows", n)?,
         None => write!(to, " rows not known")?,
     }
     writeln!(to)
@@ -18,9 +18,9 @@ fn print_rows<W: Write>(to: &mut W, rows: Option<usize>) -> io::Result<()> {
 fn print_breach<W: Write>(to: &mut W, v: Verdict) -> io::Result<()> {
     write!(to, "code {} rule {} frame {}", v.code, v.rule, v.frame)?;
     print_rows(to, v.rows)?;
-    print_field(to, "a rule is broken: rule", v.rule)?;
+    print_field(to, b"a rule is broken: rule", v.rule)?;
     if 0 < v.frame {
-        print_field(to, " at frame", v.frame)?;
+        print_field(to, b" at frame", v.frame)?;
     }
     writeln!(to)
 }
@@ -36,7 +36,7 @@ fn print_unread<W: Write>(to: &mut W, v: Verdict) -> io::Result<()> {
 }
 
 fn print_alone<W: Write>(to: &mut W, v: Verdict) -> io::Result<()> {
-    print_field(to, "code", v.code)?;
+    print_field(to, b"code", v.code)?;
     print_rows(to, v.rows)?;
     let meaning = match v.code {
         0 => "accepted",

@@ -1,5 +1,9 @@
--- How a row begins in print: its tag and its VR, in ASCII.
+-- What is printed of a reading, in ASCII: how a row begins, its tag and its VR; and the line of a refusal.
 use Rattle.std.specs.Prelude.{ℕ, ◌+◌, ◌/◌, ◌%◌, List, [], ◌∷◌, cond, ltb, eqb}
+use Rattle.dataset.specs.Fault.{code_of}
+use Rattle.dataset.specs.declared.ReadError.{ReadError}
+use Rattle.dataset.specs.declared.ReadError.TheVariants.{Refused, TooLarge, NoRoom}
+use Rattle.printing.specs.Lines.{code_line, unread_line}
 
 -- The last hexadecimal digit of a number, in upper case.
 abbrev pub hex_digit : ℕ → ℕ
@@ -24,3 +28,9 @@ heading tag vr =
     ∷ letter vr (vr / 256)
     ∷ letter vr vr
     ∷ []
+
+-- Why a data set was not read: code and offset, or the code alone.
+abbrev pub error_line : ReadError → List ℕ
+error_line (Refused r) = unread_line (code_of r.fault) r.offset
+error_line TooLarge = code_line 7
+error_line NoRoom = code_line 8

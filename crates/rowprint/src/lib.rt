@@ -1,10 +1,11 @@
 // The reading of a data set, printed to the writer `to`: `rows N` and a line for each row, or the refusal.
 #![tactic(auto)]
 
-ghost use Rattle.std.specs.Prelude.{◌≡◌, ◌+◌, ◌*◌, ◌≤◌, length};
+ghost use Rattle.std.specs.Prelude.{◌≡◌, ◌+◌, ◌*◌, ◌≤◌, OnOk, length};
+ghost use Rattle.std.specs.Io.KnownBytes.{Appends};
 ghost use Rattle.dataset.specs.Reading.{reading_of};
 ghost use Rattle.dataset.specs.Answer.{width, answer_of, buffer_of};
-ghost use Rattle.rowprint.specs.Text.{hex_digit, heading, letter as Text·letter};
+ghost use Rattle.rowprint.specs.Text.{hex_digit, heading, error_line, letter as Text·letter};
 ghost use Rattle.rowprint.specs.Internal.{RowsHeld, Roomy};
 
 use dataset::ReadError;
@@ -72,7 +73,9 @@ fn print_rows<W: Write>(to: &mut W, rows: &[u32], n: usize) -> io::Result<()>
 }
 
 // Why a data set was not read, in a line.
-pub fn print_error<W: Write>(to: &mut W, error: ReadError) -> io::Result<()> {
+pub fn print_error<W: Write>(to: &mut W, error: ReadError) -> io::Result<()>
+    ensures { OnOk result (Appends (W.contents to.old) (W.contents to.new) (error_line error)) }
+{
     match error {
         ReadError::Refused(refusal) => print_unread(to, refusal.fault.code(), refusal.offset),
         ReadError::TooLarge => print_code(to, 7),

@@ -246,7 +246,7 @@ fn shades_for(
 // ---- Frames
 
 // The pixel bytes. `value_part` and not `DataSet::value`, since the theorem FrameBytes speaks of the part that it hands out.
-fn pixels_of<'a>(set: &DataSet<'a>, p: usize) -> &'a [u8]
+fn pixels_of<'a, 'b>(set: &DataSet<'a, 'b>, p: usize) -> &'a [u8]
     requires { IsPixels (nodes_of set.now) p }
     ensures { result.now ≡ value_at (nodes_of set.now) p }
 {
@@ -531,6 +531,8 @@ fn refused(error: SheetError) -> Sampled
 }
 
 // The sheet of frames of an accepted object whose number of rows is given: codes 19 and 10, or the sheet.
+// It has the buffers of a sheet, a megabyte of stack; out of line, so that judging does not take its own stack on top of that.
+#[inline(never)]
 #[tactic(auto, unfolding(crate::specs::Answer::accepted_answer))]
 fn sheet_table(set: &DataSet, first: usize, last: usize, count: usize) -> Sampled
     requires { ((i : ℕ) → get_or set.now i 0 < 256) × (finding_of (nodes_of set.now) ≡ finding.Accepted) }

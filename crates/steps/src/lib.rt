@@ -133,7 +133,8 @@ pub fn range_holds(set: &DataSet, frame: usize, j: usize) -> Option<bool>
     }
 }
 
-// The search: the first mask item from `from` up to `to` whose range holds the frame, or that there is none.
+// The search: the first mask item from `from` up to `to` whose range does not leave the frame out, or none. If the range there can be
+// read, it holds the frame.
 pub fn first_holding(set: &DataSet, frame: usize, from: usize, to: usize) -> Option<usize>
     requires { to ≤ length (nodes_of set.now) }
     ensures result_value { if_read (nodes_of set.now) frame result ≡ first_holding (nodes_of set.now) frame (members (nodes_of set.now) from to) }
@@ -147,7 +148,7 @@ pub fn first_holding(set: &DataSet, frame: usize, from: usize, to: usize) -> Opt
             return Some(item);
         }
     }
-    None
+    None // no range holds the frame
 }
 
 // Step 2: the mask item that applies to a frame, or none.

@@ -51,7 +51,7 @@ fn print_cases<W: Write>(to: &mut W, cases: &[u8]) -> io::Result<()> {
     let mut at = 0;
     while let Some(case) = case_at(cases, at) {
         at = case.end;
-        print_case(to, &cases[case])?;
+        print_case(to, &cases[case.start..case.end])?;
     }
     print_rest(to, cases, at)
 }

@@ -289,7 +289,10 @@ pub fn integer_of(v: &[u8]) -> Option<Signed>
 
 // ---- DS
 
+// What reads one value is inlined into the walks over a window's values (`all_decimals`, `all_widths`), nearly all of whose time it takes.
+
 // m · 10^e units. No power is computed: a number that is not 0 exceeds the size of a DS number after at most 12 turns.
+#[inline(always)]
 fn multiplied(m: usize, e: usize) -> Option<usize>
     requires { (0 < m) × (m ≤ 10 ^ characters) }
     ensures { result ≡ if_small (m * 10 ^ e) }
@@ -305,6 +308,7 @@ fn multiplied(m: usize, e: usize) -> Option<usize>
 }
 
 // m / 10^e units, if that is a whole number: a number of 16 digits that is not 0 ends in at most 15 zeros.
+#[inline(always)]
 fn divided(m: usize, e: usize) -> Option<usize>
     ensures { result ≡ wholly m (10 ^ e) }
 {
@@ -319,6 +323,7 @@ fn divided(m: usize, e: usize) -> Option<usize>
 }
 
 // m · 10^up / 10^down units. Zero is zero at any exponent.
+#[inline(always)]
 fn exact(m: usize, up: usize, down: usize) -> Option<usize>
     requires { m ≤ 10 ^ characters }
     ensures { result ≡ exact_of m up down }
@@ -359,6 +364,7 @@ fn exponent_of(s: &[u8]) -> Option<Signed>
 }
 
 // What follows `count` digits that made m, `after` of them after the point.
+#[inline(always)]
 fn end_of(s: &[u8], count: usize, m: usize, after: usize) -> Option<usize>
     requires { (m ≤ 10 ^ characters) × (after ≤ characters) }
     ensures { result ≡ end_of count m after s.now }
@@ -387,6 +393,7 @@ fn point_of(s: &[u8], before: usize, whole: usize) -> Option<usize>
 }
 
 // Digits, then optionally a point and digits, at least one digit in all, then optionally an exponent.
+#[inline(always)]
 fn size_of(s: &[u8]) -> Option<usize>
     requires { length s.now ≤ characters }
     ensures { result ≡ size_of s.now }
@@ -401,6 +408,7 @@ fn size_of(s: &[u8]) -> Option<usize>
 }
 
 // The same after an optional sign.
+#[inline(always)]
 fn signed_size(s: &[u8]) -> Option<Signed>
     requires { length s.now ≤ characters }
     ensures { result ≡ signed_by size_of s.now }
@@ -410,6 +418,7 @@ fn signed_size(s: &[u8]) -> Option<Signed>
 }
 
 // One value of a DS, in units.
+#[inline(always)]
 pub fn decimal_of(v: &[u8]) -> Option<Signed>
     ensures value { result ≡ decimal_of v.now }
     ensures size_below { SizeBelow size_limit result }

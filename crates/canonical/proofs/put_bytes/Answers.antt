@@ -1,9 +1,16 @@
--- A part of the target is written over.
+-- Each turn puts one byte, and what is left of the bytes goes behind it.
 use native.Mathlib.Omega.{arith}
-use Rattle.canonical.proofs.Puts.{part-put}
+use Rattle.canonical.proofs.Puts.{value-first, value-next, value-last}
 use Rattle.canonical.proofs.put_bytes.Goals as goal
+
+pub loop-i-init : goal.loop-i-init
+loop-i-init c =
+    value-first _ _ _
+
+pub loop-i-preserved : goal.loop-i-preserved
+loop-i-preserved c =
+    value-next c.loop-i.invariant (omega arith)
 
 pub returns : goal.returns
 returns c =
-    rw c.copy_from_slice.ensures.after
-    (part-put c.args.target.now c.args.bytes.now c.args.at _ c.requires (omega arith))
+    value-last c.loop-i.invariant (omega arith)
