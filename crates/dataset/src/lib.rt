@@ -129,6 +129,8 @@ impl From<Refusal> for ReadError {
     }
 }
 
+// What reads one element's header is inlined into the walks, here and in `meta`: as a call it hands cursor and answer over in memory, and a
+// head of many elements took half as many instructions more.
 impl Cursor {
     // The cursor at the start of a data set of so many bytes.
     fn start(size: usize) -> Cursor
@@ -154,6 +156,7 @@ impl Cursor {
 
     // The delimiter `due`, if one is due.
     #[tactic(auto, unfolding(crate::specs::Header::delimiter_by, crate::specs::Header::when))]
+    #[inline(always)]
     fn delimiter(self, tag: usize, due: usize, len: usize) -> Result<Head, Fault>
         requires { self.at + 8 ≤ self.end }
         ensures value { result ≡ delimiter_by self tag due len }
@@ -168,6 +171,7 @@ impl Cursor {
 
     // A value within the cursor's end; a sequence needs a level below it.
     #[tactic(auto, unfolding(crate::specs::Header::nested_by, crate::specs::Header::when))]
+    #[inline(always)]
     fn nested(self, tag: usize, vr: usize, levels: usize, value: Cursor) -> Result<Head, Fault>
         requires { (self.at + 8 ≤ value.at)
             × ((value.at ≤ value.end) × ((value.end ≤ self.end) × ((tag < 4294967296) × (vr < 65536)))) }
@@ -183,6 +187,7 @@ impl Cursor {
 
     // A value of a defined length.
     #[tactic(auto, unfolding(crate::specs::Header::defined_by, crate::specs::Header::when))]
+    #[inline(always)]
     fn defined(
         self,
         tag: usize,
@@ -211,6 +216,7 @@ impl Cursor {
 
     // A value with a 32-bit length, which may be undefined.
     #[tactic(auto, unfolding(crate::specs::Header::long_by, crate::specs::Header::when))]
+    #[inline(always)]
     fn long(
         self,
         tag: usize,
@@ -239,6 +245,7 @@ impl Cursor {
 
     // Checks 4 to 8 of an element of the tag, VR and form, with the 16 bits after the VR.
     #[tactic(auto, unfolding(crate::specs::Header::typed_at, crate::specs::Header::when))]
+    #[inline(always)]
     pub fn typed(
         self,
         s: &[u8],
@@ -270,6 +277,7 @@ impl Cursor {
 
     // Checks 2 to 8 of an element of the tag.
     #[tactic(auto, unfolding(crate::specs::Header::tagged_at, crate::specs::Header::when))]
+    #[inline(always)]
     fn tagged(self, s: &[u8], tag: usize, least: usize, levels: usize) -> Result<Head, Fault>
         requires { (self.at + 8 ≤ self.end) × ((self.end ≤ length s.now) × (tag < 4294967296)) }
         ensures value { result ≡ tagged_at s.now self tag least levels }
@@ -318,6 +326,7 @@ impl Cursor {
 
     // Whether there is a header, with 8 bytes at least; or else the known end is reached exactly. Any other end is refused.
     #[tactic(auto, unfolding(crate::specs::Header::header_by, crate::specs::Header::when))]
+    #[inline(always)]
     fn has_header(self) -> Result<bool, Fault>
         requires { self.at ≤ self.end }
         ensures { Begins self result }
@@ -336,6 +345,7 @@ impl Cursor {
     }
 
     // What is at the cursor among elements; tags below `least` are refused, and `levels` more levels are permitted.
+    #[inline(always)]
     pub fn element(self, s: &[u8], least: usize, levels: usize) -> Result<Head, Fault>
         requires { (self.at ≤ self.end) × (self.end ≤ length s.now) }
         ensures value { result ≡ element_at s.now self least levels }

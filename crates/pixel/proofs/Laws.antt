@@ -1,7 +1,7 @@
 -- Bounds of samples, sums and averages, where a sample takes its mask from, and a painted picture.
 use mathlib.Core.Path.{◌≡◌, refl, sym, ◌∙◌, ap, subst}
 use mathlib.Core.Bool.{true}
-use mathlib.Core.List.{List, [], ◌∷◌, ◌++◌, append_assoc}
+use mathlib.Core.List.{List, [], ◌∷◌, ◌++◌}
 use mathlib.Core.Logic.{◌⊎◌, inl, inr, ⊎_elim}
 use Prim.Native.Nat.{ℕ, zero, suc, ◌+◌, ◌-◌, ◌*◌, ◌/◌, ◌%◌, ◌^◌, ◌≤◌, ◌<◌, min}
 use native.Mathlib.Numerals.{add-one}
@@ -13,7 +13,7 @@ use lib.Bits.{bit_and, and_mask}
 use lib.Dec.{leb}
 use lib.Pow.{pow_pos, pow-lt, le_ones}
 use lib.ListN.{length, get_or, set, take, drop, length-set, length-drop, get_or-append}
-use lib.Seq.{take-suc, set-append_seam, get_or-set_same, get_or-set_other, drop-cons, drop-length, get_or-append-add, length-take-le}
+use lib.Seq.{get_or-set_same, get_or-set_other, drop-cons, drop-length, get_or-append-add, length-take-le}
 use Rattle.basics.proofs.Tests.{and_both}
 use Rattle.basics.specs.Bytes.{le16, le_number}
 use Rattle.value.specs.Number.{us_values}
@@ -487,20 +487,3 @@ spread-most v g ks row s n e sums j l = rw (sums.at j l, e) (sum-most g v ks (ro
 pub mask-frame : (v : List ℕ) (g : Geometry) (ms : List ℕ) (k x : ℕ) → Masks v g ms → 0 < k → k ≤ length (us_values ms)
     → x ≡ get_or (us_values ms) (k - 1) 0 → is_frame g v x ≡ true
 mask-frame v g ms k x m some h e = rw e (m.frames (k - 1) (omega arith))
-
--- ---- A copy
-
--- Painting every place from a list is the list's front.
-pub painted-copy : (from to : List ℕ) (n : ℕ) → n ≤ length from → n ≤ length to
-    → take n from ++ drop n to ≡ painted (λ j. get_or from j 0) n to
-unfolding painted
-painted-copy from to zero h k = refl
-painted-copy from to (suc n) h k =
-    let a : ℕ = get_or from n 0 in
-    let rest : List ℕ = drop (suc n) to in
-    let before = painted-copy from to n (omega arith) (omega arith) in
-    let size : length (take n from) ≡ n = length-take-le n from (omega arith) in
-    let seam : set (take n from ++ (get_or to n 0 ∷ rest)) (length (take n from)) a
-    ≡ take n from ++ (a ∷ rest) = set-append_seam (take n from) (get_or to n 0) rest a in
-    rw (take-suc from n 0 h, append_assoc (take n from) (a ∷ []) rest, ← before, drop-cons to n 0 k)
-    (sym seam ∙ ap (λ (i : ℕ). set (take n from ++ (get_or to n 0 ∷ rest)) i a) size)

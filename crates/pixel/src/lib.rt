@@ -236,7 +236,10 @@ pub fn copy(count: usize, from: &[u32], to: &mut [u32])
     requires { (count ≤ length from.now) × (count ≤ length to.old) }
     ensures { to.new ≡ painted (λ j. get_or from.now j 0) count to.old }
 {
-    to[..count].copy_from_slice(&from[..count]);
+    // One by one: `copy_from_slice` calls `memmove`, which the archive for C would then need from outside.
+    for j in 0..count {
+        to[j] = from[j];
+    }
 }
 
 // The four weights, in reading order, for a quarters down and b to the right.
