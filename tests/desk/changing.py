@@ -328,6 +328,7 @@ class TestChanging(Desk):
                     times += 1
                     os.utime(self.path("run.dcm"), (times, times))
                     gap, last = max(gap, time.monotonic() - last), time.monotonic()
+                gap = max(gap, time.monotonic() - last)  # since the last touch
                 out, told = process.communicate()
                 if process.returncode != FINE or gap < GAP:
                     break
